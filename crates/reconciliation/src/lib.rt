@@ -1,0 +1,17 @@
+//! The rules of reconciliation: tax, net, carrying charge and the reconciliation rate E, with the figures that they are worked from.
+mod figures;
+mod refusal;
+mod rules;
+
+pub use figures::AnnualRate;
+pub use figures::Cents;
+pub use figures::ProjectedSum;
+pub use figures::RateUnits;
+pub use figures::ReconciliationRate;
+pub use figures::TaxRate;
+pub use refusal::Refusal;
+pub use rules::carrying_charge;
+pub use rules::monthly_rate;
+pub use rules::net;
+pub use rules::reconciliation_rate;
+pub use rules::tax;
