@@ -1,5 +1,8 @@
 //! Figures with a unit or a range of their own.
-pub mod given;
+pub mod annual_rate;
+pub mod projected_sum;
+pub mod reconciliation_rate;
+pub mod tax_rate;
 
 ghost use Prim.Native.Nat.{_≤_};
 ghost use lib.IntN.{natAbs};
