@@ -1,0 +1,7 @@
+pub mod Energy
+pub mod Cuts
+pub mod Widths
+pub mod PerUnit
+pub mod FlatLaw
+pub mod HourlyLaw
+pub mod ByHand

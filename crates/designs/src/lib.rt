@@ -1,0 +1,32 @@
+//! Class rate designs: what a period of hours is charged.
+mod component;
+mod flat;
+mod hourly;
+mod hours;
+mod rate_design;
+mod refusal;
+mod worked;
+
+pub use component::Component;
+pub use component::LossMultiplier;
+pub use flat::Flat;
+pub use flat::FlatFigures;
+pub use flat::design::FlatDesign;
+pub use hourly::Hourly;
+pub use hourly::HourlyFigures;
+pub use hourly::design::HourlyDesign;
+pub use hours::Hour;
+pub use hours::Period;
+pub use hours::cutting::cut;
+pub use rate_design::RateDesign;
+pub use rate_design::Slack;
+pub use refusal::PeriodRefusal;
+pub use refusal::PeriodRefusalDebug;
+pub use refusal::PeriodRefusalEq;
+pub use refusal::PeriodRefusalPartialEq;
+pub use refusal::Refusal;
+pub use refusal::RefusalDebug;
+pub use refusal::RefusalEq;
+pub use refusal::RefusalPartialEq;
+pub use worked::WorkedSums;
+pub use worked::worked_sums;

@@ -1,0 +1,5 @@
+pub mod Figured
+pub mod Lists
+pub mod Sizes
+pub mod Bits
+pub mod Sheet
