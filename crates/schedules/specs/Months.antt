@@ -1,0 +1,29 @@
+-- The lines of a month in whole dollars, each from the figures that a sheet prints above it.
+use Prim.Native.Nat.{ℕ}
+use lib.IntN.{ℤ, pos, _+ℤ_, _-ℤ_, _*ℤ_}
+use Rattle.rounding.specs.Rounding.{money-rounded}
+use Rattle.reconciliation.specs.Reconciliation.{carrying-charge, net-of, tax-on}
+use Rattle.schedules.specs.declared.months.Month.{Month}
+use Rattle.schedules.specs.declared.months.MonthWorked.{MonthWorked}
+
+-- Whole dollars in cents.
+abbrev pub in-cents : ℤ → ℤ
+in-cents dollars = dollars *ℤ pos 100
+
+-- Cents in whole dollars.
+abbrev pub in-dollars : ℤ → ℤ
+in-dollars cents = money-rounded cents 100
+
+-- The interest of a month in cents, from its two balances as printed.
+abbrev pub interest-of : Month → ℕ → ℕ → ℤ
+interest-of month under over = carrying-charge (in-cents (month .last)) (in-cents (month .before)) under over
+
+-- The lines: tax, net, last + expenses − net, interest, and balance before + interest.
+unfoldable pub month-worked : Month → (tax under over : ℕ) → MonthWorked
+month-worked month tax under over = record {
+  tax = in-dollars (tax-on (in-cents (month .revenue)) tax);
+  net = in-dollars (net-of (in-cents (month .revenue)) tax);
+  before = month .last +ℤ month .expenses -ℤ month .net;
+  interest = in-dollars (interest-of month under over);
+  end = in-dollars (in-cents (month .before) +ℤ interest-of month under over);
+}
