@@ -1,3 +1,4 @@
 pub mod Comparisons
-pub mod Months
+pub mod Supplies
 pub mod Rates
+pub mod Months

@@ -1,10 +1,15 @@
 -- The lines of a month in whole dollars, each from the figures that a sheet prints above it.
+use mathlib.Core.List.{List, [], _∷_}
 use Prim.Native.Nat.{ℕ}
 use lib.IntN.{ℤ, pos, _+ℤ_, _-ℤ_, _*ℤ_}
 use Rattle.rounding.specs.Rounding.{money-rounded}
 use Rattle.reconciliation.specs.Reconciliation.{carrying-charge, net-of, tax-on}
+use Rattle.schedules.specs.declared.comparison.Comparison.{Comparison}
+use Rattle.schedules.specs.declared.comparison.Unit.the-variants.{Dollars}
+use Rattle.schedules.specs.declared.line_name.LineName.the-variants.{TaxInRevenues, RevenuesWithoutTax, BalanceBeforeInterest, Interest, BalanceAtEnd}
 use Rattle.schedules.specs.declared.months.Month.{Month}
 use Rattle.schedules.specs.declared.months.MonthWorked.{MonthWorked}
+use Rattle.schedules.specs.Comparisons.{line-of}
 
 -- Whole dollars in cents.
 abbrev pub in-cents : ℤ → ℤ
@@ -27,3 +32,12 @@ month-worked month tax under over = record {
   interest = in-dollars (interest-of month under over);
   end = in-dollars (in-cents (month .before) +ℤ interest-of month under over);
 }
+
+-- A month's lines beside the sheet's, in whole dollars.
+abbrev pub month-lines : Month → MonthWorked → List Comparison
+month-lines month worked =
+    line-of TaxInRevenues Dollars (month .tax) (worked .tax)
+    ∷ line-of RevenuesWithoutTax Dollars (month .net) (worked .net)
+    ∷ line-of BalanceBeforeInterest Dollars (month .before) (worked .before)
+    ∷ line-of Interest Dollars (month .interest) (worked .interest)
+    ∷ line-of BalanceAtEnd Dollars (month .end) (worked .end) ∷ []

@@ -1,9 +1,11 @@
 //! The page of the months: tax, net, interest and balances.
 ghost use mathlib.Core.Path.{_≡_};
 ghost use Prim.Native.Nat.{_≤_, _^_};
-ghost use lib.IntN.{natAbs};
+ghost use lib.IntN.{natAbs, pos};
+ghost use Rattle.std.specs.Vec.{made};
 ghost use Rattle.rounding.specs.Rounding.{money-rounded};
-ghost use Rattle.schedules.specs.Months.{in-cents, month-worked};
+ghost use Rattle.schedules.specs.Comparisons.{line-of};
+ghost use Rattle.schedules.specs.Months.{in-cents, month-lines, month-worked};
 use crate::comparison::Comparison;
 use crate::comparison::Unit;
 use crate::line_name::LineName;
@@ -70,7 +72,9 @@ pub struct Rates {
 
 impl Rates {
     /// A tax in ten-thousandths, with interest of 6 percent a year on what was under-collected and 8 percent on what was over-collected.
-    pub fn new(tax: i64) -> Result<Rates, Refused> {
+    pub fn new(tax: i64) -> Result<Rates, Refused>
+        ensures { λ r. ⌜ made r (λ rates. (pos (rates .tax .value) ≡ tax) × (rates .under .value ≡ 600) × (rates .over .value ≡ 800)) ⌝ }
+    {
         Ok(Rates {
             tax: TaxRate::new(tax)?,
             under: AnnualRate::new(600)?,
@@ -102,7 +106,9 @@ impl Month {
     }
 
     /// The lines of the month.
-    pub fn compare(&self, rates: Rates) -> [Comparison; 5] {
+    pub fn compare(&self, rates: Rates) -> [Comparison; 5]
+        ensures { λ r. ⌜ r ≡ month-lines (now (self .entry)) (month-worked (now (self .entry)) (rates .tax .value) (rates .under .value) (rates .over .value)) ⌝ }
+    {
         let worked = self.worked(rates);
         [
             line(LineName::TaxInRevenues, self.tax, worked.tax),
@@ -115,7 +121,9 @@ impl Month {
 }
 
 /// A line in dollars.
-fn line(name: LineName, sheet: i32, worked: i64) -> Comparison {
+fn line(name: LineName, sheet: i32, worked: i64) -> Comparison
+    ensures { λ r. ⌜ r ≡ line-of name Unit.Dollars sheet worked ⌝ }
+{
     Comparison {
         name,
         unit: Unit::Dollars,

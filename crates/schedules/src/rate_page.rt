@@ -2,7 +2,8 @@
 ghost use mathlib.Core.Path.{_≡_};
 ghost use Rattle.std.specs.Vec.{made};
 ghost use Rattle.designs.specs.Flat.{rate-in-force};
-ghost use Rattle.schedules.specs.Rates.{RateWorkedFrom, gross-up-of};
+ghost use Rattle.schedules.specs.Comparisons.{line-of};
+ghost use Rattle.schedules.specs.Rates.{RateWorkedFrom, RatesCompared, gross-up-of};
 use crate::comparison::Comparison;
 use crate::comparison::Unit;
 use crate::line_name::LineName;
@@ -57,7 +58,9 @@ impl RatePage {
     }
 
     /// The lines of the page.
-    pub fn compare(&self, tax: TaxRate) -> Result<[Comparison; 6], Refused> {
+    pub fn compare(&self, tax: TaxRate) -> Result<[Comparison; 6], Refused>
+        ensures { λ r. ⌜ made r (RatesCompared (now (self .entry)) (tax .value)) ⌝ }
+    {
         let worked = self.worked(tax)?;
         let factor = gross_up_line(LineName::MultipliedBy, self.gross_up, worked.gross_up);
         Ok([
@@ -76,7 +79,9 @@ impl RatePage {
 }
 
 /// A line in dollars per kWh.
-pub fn per_kwh(name: LineName, sheet: i64, worked: i64) -> Comparison {
+pub fn per_kwh(name: LineName, sheet: i64, worked: i64) -> Comparison
+    ensures { λ r. ⌜ r ≡ line-of name Unit.DollarsPerKwh sheet worked ⌝ }
+{
     Comparison {
         name,
         unit: Unit::DollarsPerKwh,
@@ -86,7 +91,9 @@ pub fn per_kwh(name: LineName, sheet: i64, worked: i64) -> Comparison {
 }
 
 /// The line of the gross-up.
-pub fn gross_up_line(name: LineName, sheet: i64, worked: i64) -> Comparison {
+pub fn gross_up_line(name: LineName, sheet: i64, worked: i64) -> Comparison
+    ensures { λ r. ⌜ r ≡ line-of name Unit.Factor sheet worked ⌝ }
+{
     Comparison {
         name,
         unit: Unit::Factor,

@@ -1,7 +1,7 @@
 //! The page of the reconciliation rate E.
 ghost use mathlib.Core.Path.{_≡_};
 ghost use Rattle.std.specs.Vec.{made};
-ghost use Rattle.schedules.specs.Rates.{EWorkedFrom};
+ghost use Rattle.schedules.specs.Rates.{ECompared, EWorkedFrom, sales-line};
 use crate::comparison::Comparison;
 use crate::comparison::Unit;
 use crate::line_name::LineName;
@@ -57,7 +57,9 @@ impl ReconciliationPage {
     }
 
     /// The lines of the rates.
-    pub fn compare(&self, tax: TaxRate) -> Result<[Comparison; 3], Refused> {
+    pub fn compare(&self, tax: TaxRate) -> Result<[Comparison; 3], Refused>
+        ensures { λ r. ⌜ made r (ECompared (now (self .entry)) (tax .value)) ⌝ }
+    {
         let worked = self.worked(tax)?;
         Ok([
             per_kwh(LineName::RateBeforeTax, self.e, worked.e),
@@ -67,7 +69,9 @@ impl ReconciliationPage {
     }
 
     /// The line of the projected total, where the sheet prints the months that it is the sum of.
-    pub fn compare_sales(&self) -> Option<Comparison> {
+    pub fn compare_sales(&self) -> Option<Comparison>
+        ensures { λ r. ⌜ r ≡ sales-line (now (self .entry) .projected) (now (self .entry) .sales) ⌝ }
+    {
         let [first, second, third] = self.sales?;
         Some(Comparison {
             name: LineName::ProjectedSales,

@@ -1,4 +1,8 @@
 //! The upper part of the page of the rate: the supply schedule.
+ghost use mathlib.Core.Path.{_≡_};
+ghost use Rattle.std.specs.Vec.{made};
+ghost use Rattle.schedules.specs.Comparisons.{line-of};
+ghost use Rattle.schedules.specs.Supplies.{BlockLines, ComponentLine, fixed-of, RestLines, ThroughLine, TrancheLines, variable-of};
 use crate::comparison::Comparison;
 use crate::comparison::Unit;
 use crate::line_name::LineName;
@@ -60,7 +64,9 @@ pub struct Blocks {
 
 impl Printed {
     /// The line beside what the rules give for it.
-    fn beside(self, worked: i64) -> Comparison {
+    fn beside(self, worked: i64) -> Comparison
+        ensures { λ r. ⌜ r ≡ line-of (self .name) Unit.DollarsPerMwh (self .price) worked ⌝ }
+    {
         Comparison {
             name: self.name,
             unit: Unit::DollarsPerMwh,
@@ -72,7 +78,9 @@ impl Printed {
 
 impl Supplied {
     /// The fixed and the variable part as printed.
-    fn parts(&self) -> (i64, i64) {
+    fn parts(&self) -> (i64, i64)
+        ensures { λ r. ⌜ (r .0 ≡ fixed-of (now (self .entry))) × (r .1 ≡ variable-of (now (self .entry))) ⌝ }
+    {
         match self {
             Supplied::Hourly(price) => (0, *price),
             Supplied::InBlocks(blocks) => (blocks.fixed.price, blocks.variable.price),
@@ -82,7 +90,9 @@ impl Supplied {
 
 impl Blocks {
     /// The average price of the blocks, the fixed part and the variable part.
-    pub fn compare(&self, blocks: &[Block]) -> Result<[Comparison; 3], Refused> {
+    pub fn compare(&self, blocks: &[Block]) -> Result<[Comparison; 3], Refused>
+        ensures { λ r. ⌜ made r (BlockLines (now (self .entry)) (now (blocks .entry))) ⌝ }
+    {
         let average = supply::block_average(blocks)?;
         let fixed = supply::share_of(self.average.price, self.share)?;
         let variable = supply::rest_of(self.hourly_price, self.share)?;
@@ -96,7 +106,9 @@ impl Blocks {
 
 impl SupplyPage {
     /// The average price of the tranches, and their part.
-    pub fn compare_tranches(&self, tranches: &[Tranche]) -> Result<[Comparison; 2], Refused> {
+    pub fn compare_tranches(&self, tranches: &[Tranche]) -> Result<[Comparison; 2], Refused>
+        ensures { λ r. ⌜ made r (TrancheLines (now (self .entry)) (now (tranches .entry))) ⌝ }
+    {
         let average = supply::tranche_average(tranches, self.seasons)?;
         let part = supply::share_of(self.tranche_average.price, self.tranche_share)?;
         Ok([
@@ -106,7 +118,9 @@ impl SupplyPage {
     }
 
     /// The subtotal of the rest, and its part.
-    pub fn compare_rest(&self, rest: &Rest) -> Result<[Comparison; 2], Refused> {
+    pub fn compare_rest(&self, rest: &Rest) -> Result<[Comparison; 2], Refused>
+        ensures { λ r. ⌜ made r (RestLines (now (self .entry)) (now (rest .entry))) ⌝ }
+    {
         let (fixed, variable) = rest.supplied.parts();
         let subtotal = supply::block_subtotal(fixed, variable, rest.adders)?;
         let part = supply::rest_of(rest.subtotal.price, self.tranche_share)?;
@@ -114,7 +128,9 @@ impl SupplyPage {
     }
 
     /// The cost component.
-    pub fn compare_component(&self) -> Result<Comparison, Refused> {
+    pub fn compare_component(&self) -> Result<Comparison, Refused>
+        ensures { λ r. ⌜ made r (ComponentLine (now (self .entry))) ⌝ }
+    {
         let block_part = match &self.rest {
             Some(rest) => rest.part.price,
             None => 0,
@@ -130,7 +146,9 @@ impl SupplyPage {
         bought: &Blocks,
         tranches: &[Tranche],
         blocks: &[Block],
-    ) -> Result<Comparison, Refused> {
+    ) -> Result<Comparison, Refused>
+        ensures { λ r. ⌜ made r (ThroughLine (now (self .entry)) (now (rest .entry)) (now (bought .entry)) (now (tranches .entry)) (now (blocks .entry))) ⌝ }
+    {
         let terms = Terms {
             seasons: self.seasons,
             tranche_share: self.tranche_share,

@@ -15,9 +15,9 @@ loop-comparison-again c =
     let so-far = c .loop-comparison .inv .0 in
     elim (c .if-differs .came) [
       | then-differs w ↦ let more = countBy-more-yes differs lines i _ (c .loop-comparison-test .taken) (sym (w .if-differs .ensures tt)) in
-        (w .differing-is ∙ ap (λ n. n + 1) so-far ∙ sym more, omega (arith, w .differing-is))
+          (w .differing-is ∙ ap (λ n. n + 1) so-far ∙ sym more, omega (arith, w .differing-is))
       | else-differs w ↦ let more = countBy-more-no differs lines i _ (c .loop-comparison-test .taken) (sym (w .if-differs .ensures tt)) in
-        (w .differing-is ∙ so-far ∙ sym more, omega (arith, w .differing-is))
+          (w .differing-is ∙ so-far ∙ sym more, omega (arith, w .differing-is))
     ]
 
 pub returns : need.returns
