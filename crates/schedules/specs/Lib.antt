@@ -1,4 +1,4 @@
 pub mod Comparisons
-pub mod Supplies
-pub mod Rates
 pub mod Months
+pub mod Rates
+pub mod Supply

@@ -9,7 +9,7 @@ use Rattle.schedules.specs.declared.comparison.Unit.the-variants.{Dollars}
 use Rattle.schedules.specs.declared.line_name.LineName.the-variants.{TaxInRevenues, RevenuesWithoutTax, BalanceBeforeInterest, Interest, BalanceAtEnd}
 use Rattle.schedules.specs.declared.months.Month.{Month}
 use Rattle.schedules.specs.declared.months.MonthWorked.{MonthWorked}
-use Rattle.schedules.specs.Comparisons.{line-of}
+use Rattle.schedules.specs.Comparisons.{line}
 
 -- Whole dollars in cents.
 abbrev pub in-cents : ℤ → ℤ
@@ -33,11 +33,12 @@ month-worked month tax under over = record {
   end = in-dollars (in-cents (month .before) +ℤ interest-of month under over);
 }
 
--- A month's lines beside the sheet's, in whole dollars.
+-- A month's lines as printed, beside those that are worked.
 abbrev pub month-lines : Month → MonthWorked → List Comparison
 month-lines month worked =
-    line-of TaxInRevenues Dollars (month .tax) (worked .tax)
-    ∷ line-of RevenuesWithoutTax Dollars (month .net) (worked .net)
-    ∷ line-of BalanceBeforeInterest Dollars (month .before) (worked .before)
-    ∷ line-of Interest Dollars (month .interest) (worked .interest)
-    ∷ line-of BalanceAtEnd Dollars (month .end) (worked .end) ∷ []
+    line TaxInRevenues Dollars (month .tax) (worked .tax)
+    ∷ line RevenuesWithoutTax Dollars (month .net) (worked .net)
+    ∷ line BalanceBeforeInterest Dollars (month .before) (worked .before)
+    ∷ line Interest Dollars (month .interest) (worked .interest)
+    ∷ line BalanceAtEnd Dollars (month .end) (worked .end)
+    ∷ []

@@ -4,7 +4,7 @@ ghost use Prim.Native.Nat.{_≤_, _^_};
 ghost use lib.IntN.{natAbs, pos};
 ghost use Rattle.std.specs.Vec.{made};
 ghost use Rattle.rounding.specs.Rounding.{money-rounded};
-ghost use Rattle.schedules.specs.Comparisons.{line-of};
+ghost use Rattle.schedules.specs.Comparisons.{line};
 ghost use Rattle.schedules.specs.Months.{in-cents, month-lines, month-worked};
 use crate::comparison::Comparison;
 use crate::comparison::Unit;
@@ -122,7 +122,7 @@ impl Month {
 
 /// A line in dollars.
 fn line(name: LineName, sheet: i32, worked: i64) -> Comparison
-    ensures { λ r. ⌜ r ≡ line-of name Unit.Dollars sheet worked ⌝ }
+    ensures { λ r. ⌜ r ≡ line name Unit.Dollars sheet worked ⌝ }
 {
     Comparison {
         name,

@@ -2,8 +2,8 @@
 ghost use mathlib.Core.Path.{_≡_};
 ghost use Rattle.std.specs.Vec.{made};
 ghost use Rattle.designs.specs.Flat.{rate-in-force};
-ghost use Rattle.schedules.specs.Comparisons.{line-of};
-ghost use Rattle.schedules.specs.Rates.{RateWorkedFrom, RatesCompared, gross-up-of};
+ghost use Rattle.schedules.specs.Comparisons.{line};
+ghost use Rattle.schedules.specs.Rates.{gross-up-of, rate-lines, rate-worked};
 use crate::comparison::Comparison;
 use crate::comparison::Unit;
 use crate::line_name::LineName;
@@ -44,9 +44,9 @@ pub struct RateWorked {
 }
 
 impl RatePage {
-    /// Each line from the figures that the sheet prints above it.
+    /// Each line from the figures that the sheet prints above it. What is promised is what the lines are where no figure is refused.
     pub fn worked(&self, tax: TaxRate) -> Result<RateWorked, Refused>
-        ensures { λ r. ⌜ made r (RateWorkedFrom (now (self .entry)) (tax .value)) ⌝ }
+        ensures { λ r. ⌜ made r (λ lines. lines ≡ rate-worked (now (self .entry)) (tax .value)) ⌝ }
     {
         Ok(RateWorked {
             current: Flat::new(self.figures)?.ptc_current().0,
@@ -59,7 +59,7 @@ impl RatePage {
 
     /// The lines of the page.
     pub fn compare(&self, tax: TaxRate) -> Result<[Comparison; 6], Refused>
-        ensures { λ r. ⌜ made r (RatesCompared (now (self .entry)) (tax .value)) ⌝ }
+        ensures { λ r. ⌜ made r (λ lines. lines ≡ rate-lines (now (self .entry)) (rate-worked (now (self .entry)) (tax .value))) ⌝ }
     {
         let worked = self.worked(tax)?;
         let factor = gross_up_line(LineName::MultipliedBy, self.gross_up, worked.gross_up);
@@ -80,7 +80,7 @@ impl RatePage {
 
 /// A line in dollars per kWh.
 pub fn per_kwh(name: LineName, sheet: i64, worked: i64) -> Comparison
-    ensures { λ r. ⌜ r ≡ line-of name Unit.DollarsPerKwh sheet worked ⌝ }
+    ensures { λ r. ⌜ r ≡ line name Unit.DollarsPerKwh sheet worked ⌝ }
 {
     Comparison {
         name,
@@ -92,7 +92,7 @@ pub fn per_kwh(name: LineName, sheet: i64, worked: i64) -> Comparison
 
 /// The line of the gross-up.
 pub fn gross_up_line(name: LineName, sheet: i64, worked: i64) -> Comparison
-    ensures { λ r. ⌜ r ≡ line-of name Unit.Factor sheet worked ⌝ }
+    ensures { λ r. ⌜ r ≡ line name Unit.Factor sheet worked ⌝ }
 {
     Comparison {
         name,

@@ -1,7 +1,7 @@
 //! The page of the reconciliation rate E.
 ghost use mathlib.Core.Path.{_≡_};
 ghost use Rattle.std.specs.Vec.{made};
-ghost use Rattle.schedules.specs.Rates.{ECompared, EWorkedFrom, sales-line};
+ghost use Rattle.schedules.specs.Rates.{e-lines, e-worked, sales-line};
 use crate::comparison::Comparison;
 use crate::comparison::Unit;
 use crate::line_name::LineName;
@@ -43,9 +43,9 @@ pub struct EWorked {
 }
 
 impl ReconciliationPage {
-    /// Each line from the figures that the sheet prints above it.
+    /// Each line from the figures that the sheet prints above it. What is promised is what the lines are where no figure is refused.
     pub fn worked(&self, tax: TaxRate) -> Result<EWorked, Refused>
-        ensures { λ r. ⌜ made r (EWorkedFrom (now (self .entry)) (tax .value)) ⌝ }
+        ensures { λ r. ⌜ made r (λ lines. lines ≡ e-worked (now (self .entry)) (tax .value)) ⌝ }
     {
         let projected = ProjectedSum::new(self.projected as u64)?;
         let e = reconciliation_rate(cents(self.balance), projected)?;
@@ -58,7 +58,7 @@ impl ReconciliationPage {
 
     /// The lines of the rates.
     pub fn compare(&self, tax: TaxRate) -> Result<[Comparison; 3], Refused>
-        ensures { λ r. ⌜ made r (ECompared (now (self .entry)) (tax .value)) ⌝ }
+        ensures { λ r. ⌜ made r (λ lines. lines ≡ e-lines (now (self .entry)) (e-worked (now (self .entry)) (tax .value))) ⌝ }
     {
         let worked = self.worked(tax)?;
         Ok([

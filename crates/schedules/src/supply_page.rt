@@ -1,8 +1,7 @@
-//! The upper part of the page of the rate: the supply schedule.
+//! The upper part of the page of the rate: the supply schedule. What is promised of its lines is what they are where no figure is refused.
 ghost use mathlib.Core.Path.{_≡_};
 ghost use Rattle.std.specs.Vec.{made};
-ghost use Rattle.schedules.specs.Comparisons.{line-of};
-ghost use Rattle.schedules.specs.Supplies.{BlockLines, ComponentLine, fixed-of, RestLines, ThroughLine, TrancheLines, variable-of};
+ghost use Rattle.schedules.specs.Supply.{beside, block-lines, component-line, fixed-part, rest-lines, through-line, tranche-lines, variable-part};
 use crate::comparison::Comparison;
 use crate::comparison::Unit;
 use crate::line_name::LineName;
@@ -65,7 +64,7 @@ pub struct Blocks {
 impl Printed {
     /// The line beside what the rules give for it.
     fn beside(self, worked: i64) -> Comparison
-        ensures { λ r. ⌜ r ≡ line-of (self .name) Unit.DollarsPerMwh (self .price) worked ⌝ }
+        ensures { λ r. ⌜ r ≡ beside self worked ⌝ }
     {
         Comparison {
             name: self.name,
@@ -79,7 +78,7 @@ impl Printed {
 impl Supplied {
     /// The fixed and the variable part as printed.
     fn parts(&self) -> (i64, i64)
-        ensures { λ r. ⌜ (r .0 ≡ fixed-of (now (self .entry))) × (r .1 ≡ variable-of (now (self .entry))) ⌝ }
+        ensures { λ r. ⌜ r ≡ (fixed-part (now (self .entry)), variable-part (now (self .entry))) ⌝ }
     {
         match self {
             Supplied::Hourly(price) => (0, *price),
@@ -91,7 +90,7 @@ impl Supplied {
 impl Blocks {
     /// The average price of the blocks, the fixed part and the variable part.
     pub fn compare(&self, blocks: &[Block]) -> Result<[Comparison; 3], Refused>
-        ensures { λ r. ⌜ made r (BlockLines (now (self .entry)) (now (blocks .entry))) ⌝ }
+        ensures { λ r. ⌜ made r (λ lines. lines ≡ block-lines (now (self .entry)) (now (blocks .entry))) ⌝ }
     {
         let average = supply::block_average(blocks)?;
         let fixed = supply::share_of(self.average.price, self.share)?;
@@ -107,7 +106,7 @@ impl Blocks {
 impl SupplyPage {
     /// The average price of the tranches, and their part.
     pub fn compare_tranches(&self, tranches: &[Tranche]) -> Result<[Comparison; 2], Refused>
-        ensures { λ r. ⌜ made r (TrancheLines (now (self .entry)) (now (tranches .entry))) ⌝ }
+        ensures { λ r. ⌜ made r (λ lines. lines ≡ tranche-lines (now (self .entry)) (now (tranches .entry))) ⌝ }
     {
         let average = supply::tranche_average(tranches, self.seasons)?;
         let part = supply::share_of(self.tranche_average.price, self.tranche_share)?;
@@ -119,7 +118,7 @@ impl SupplyPage {
 
     /// The subtotal of the rest, and its part.
     pub fn compare_rest(&self, rest: &Rest) -> Result<[Comparison; 2], Refused>
-        ensures { λ r. ⌜ made r (RestLines (now (self .entry)) (now (rest .entry))) ⌝ }
+        ensures { λ r. ⌜ made r (λ lines. lines ≡ rest-lines (now (self .entry)) (now (rest .entry))) ⌝ }
     {
         let (fixed, variable) = rest.supplied.parts();
         let subtotal = supply::block_subtotal(fixed, variable, rest.adders)?;
@@ -129,7 +128,7 @@ impl SupplyPage {
 
     /// The cost component.
     pub fn compare_component(&self) -> Result<Comparison, Refused>
-        ensures { λ r. ⌜ made r (ComponentLine (now (self .entry))) ⌝ }
+        ensures { λ r. ⌜ made r (λ line. line ≡ component-line (now (self .entry))) ⌝ }
     {
         let block_part = match &self.rest {
             Some(rest) => rest.part.price,
@@ -147,7 +146,7 @@ impl SupplyPage {
         tranches: &[Tranche],
         blocks: &[Block],
     ) -> Result<Comparison, Refused>
-        ensures { λ r. ⌜ made r (ThroughLine (now (self .entry)) (now (rest .entry)) (now (bought .entry)) (now (tranches .entry)) (now (blocks .entry))) ⌝ }
+        ensures { λ r. ⌜ made r (λ line. line ≡ through-line (now (self .entry)) (now (rest .entry)) (now (bought .entry)) (now (tranches .entry)) (now (blocks .entry))) ⌝ }
     {
         let terms = Terms {
             seasons: self.seasons,

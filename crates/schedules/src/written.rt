@@ -1,4 +1,4 @@
-//! How figures are written.
+//! How a figure is written.
 use crate::comparison::Unit;
 use std::fmt;
 
