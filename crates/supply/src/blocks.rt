@@ -1,5 +1,6 @@
 //! Blocks of energy.
 ghost use Rattle.supply.specs.Lines.{a-block};
+use crate::CentsPerMwh;
 use crate::Weighted;
 
 /// The most MWh that one block may have.
@@ -11,7 +12,7 @@ pub struct Block {
     /// 1 to 10,000,000.
     pub mwh: u64,
     /// In cents per MWh, 0 to 100,000.
-    pub price: i64,
+    pub price: CentsPerMwh,
 }
 
 pub impl Weighted for Block as BlockWeighted {
@@ -21,7 +22,7 @@ pub impl Weighted for Block as BlockWeighted {
         self.mwh
     }
 
-    fn price(&self) -> i64 {
+    fn price(&self) -> CentsPerMwh {
         self.price
     }
 

@@ -24,3 +24,12 @@ pub use terms::Terms;
 pub use tranches::Tranche;
 pub use tranches::TrancheWeighted;
 pub use weighted::Weighted;
+
+/// A price, or a line of a schedule, in cents per MWh; in rate units it is the same number.
+pub type CentsPerMwh = i64;
+
+/// A share of the load in ten-thousandths.
+pub type TenThousandths = i64;
+
+/// A season's factor in hundredths.
+pub type Hundredths = i64;

@@ -2,7 +2,10 @@
 ghost use mathlib.Core.Path.{_≡_};
 ghost use Rattle.supply.specs.Figures.{any, factor-out, outside, price-out, printed-out, share-out};
 ghost use Rattle.supply.specs.Terms.{seasons-out, terms-out};
+use crate::CentsPerMwh;
+use crate::Hundredths;
 use crate::Seasons;
+use crate::TenThousandths;
 use crate::Terms;
 
 /// Whether a figure is below `low` or above `high`.
@@ -13,28 +16,28 @@ fn outside(low: i64, high: i64, figure: i64) -> bool
 }
 
 /// Whether a price as given is out of range.
-pub(crate) fn price_out(price: i64) -> bool
+pub(crate) fn price_out(price: CentsPerMwh) -> bool
     ensures { λ r. ⌜ r ≡ price-out price ⌝ }
 {
     outside(0, 100_000, price)
 }
 
 /// Whether a price as printed on a line is out of range.
-pub(crate) fn printed_out(price: i64) -> bool
+pub(crate) fn printed_out(price: CentsPerMwh) -> bool
     ensures { λ r. ⌜ r ≡ printed-out price ⌝ }
 {
     outside(0, 1_000_000, price)
 }
 
 /// Whether a share is out of range.
-pub(crate) fn share_out(share: i64) -> bool
+pub(crate) fn share_out(share: TenThousandths) -> bool
     ensures { λ r. ⌜ r ≡ share-out share ⌝ }
 {
     outside(0, 10_000, share)
 }
 
 /// Whether a season's factor is out of range.
-fn factor_out(factor: i64) -> bool
+fn factor_out(factor: Hundredths) -> bool
     ensures { λ r. ⌜ r ≡ factor-out factor ⌝ }
 {
     outside(50, 200, factor)
@@ -52,7 +55,7 @@ pub(crate) fn seasons_out(seasons: Seasons) -> bool
 }
 
 /// Whether an adder is out of range.
-pub(crate) fn adders_out(adders: &[i64]) -> bool
+pub(crate) fn adders_out(adders: &[CentsPerMwh]) -> bool
     ensures { λ r. ⌜ r ≡ any price-out (now (adders .entry)) ⌝ }
 {
     for adder in adders {

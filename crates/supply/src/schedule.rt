@@ -9,8 +9,10 @@ ghost use Rattle.supply.specs.Schedule.{LineByLine, block-average, block-avera
 ghost use Rattle.supply.specs.Terms.{seasons-out, terms-out};
 use crate::Block;
 use crate::BlockWeighted;
+use crate::CentsPerMwh;
 use crate::Refusal;
 use crate::Seasons;
+use crate::TenThousandths;
 use crate::Terms;
 use crate::Tranche;
 use crate::TrancheWeighted;
@@ -30,21 +32,21 @@ use rounding::times;
 #[derive(Clone, Copy, PartialEq, Eq, Debug)]
 pub struct SupplyLines {
     /// Line 1.
-    pub tranche_average: i64,
+    pub tranche_average: CentsPerMwh,
     /// Line 2: the share s of line 1.
-    pub tranche_part: i64,
+    pub tranche_part: CentsPerMwh,
     /// Line 3.
-    pub block_average: i64,
+    pub block_average: CentsPerMwh,
     /// Line 4: the share p of line 3.
-    pub fixed_part: i64,
+    pub fixed_part: CentsPerMwh,
     /// Line 4: what p leaves of the variable price.
-    pub variable_part: i64,
+    pub variable_part: CentsPerMwh,
     /// Line 5: line 4 and the adders.
-    pub block_subtotal: i64,
+    pub block_subtotal: CentsPerMwh,
     /// Line 6: what s leaves of line 5.
-    pub block_part: i64,
+    pub block_part: CentsPerMwh,
     /// Line 7: line 2 + line 6.
-    pub cost_component: i64,
+    pub cost_component: CentsPerMwh,
 }
 
 /// The whole schedule.
@@ -69,7 +71,7 @@ pub fn supply_schedule(
 }
 
 /// Line 1: the average price of the tranches, by the seasons' factors.
-pub fn tranche_average(tranches: &[Tranche], seasons: Seasons) -> Result<i64, Refusal>
+pub fn tranche_average(tranches: &[Tranche], seasons: Seasons) -> Result<CentsPerMwh, Refusal>
     ensures { λ r. ⌜ r ≡ tranche-average-answer (now (tranches .entry)) seasons ⌝ }
 {
     if wrong_count(tranches) {
@@ -85,7 +87,7 @@ pub fn tranche_average(tranches: &[Tranche], seasons: Seasons) -> Result<i64, Re
 }
 
 /// Line 3: the average price of the blocks, which lies among their prices.
-pub fn block_average(blocks: &[Block]) -> Result<i64, Refusal>
+pub fn block_average(blocks: &[Block]) -> Result<CentsPerMwh, Refusal>
     ensures answer { λ r. ⌜ r ≡ block-average-answer (now (blocks .entry)) ⌝ }
     ensures among { λ r. ⌜ made r (AmongPrices a-block (now (blocks .entry))) ⌝ }
 {
@@ -99,7 +101,7 @@ pub fn block_average(blocks: &[Block]) -> Result<i64, Refusal>
 }
 
 /// Lines 2 and 4: the share of a price.
-pub fn share_of(price: i64, share: i64) -> Result<i64, Refusal>
+pub fn share_of(price: CentsPerMwh, share: TenThousandths) -> Result<CentsPerMwh, Refusal>
     ensures { λ r. ⌜ r ≡ share-answer price share ⌝ }
 {
     if printed_out(price) {
@@ -112,7 +114,7 @@ pub fn share_of(price: i64, share: i64) -> Result<i64, Refusal>
 }
 
 /// Lines 4 and 6: what the share leaves of a price.
-pub fn rest_of(price: i64, share: i64) -> Result<i64, Refusal>
+pub fn rest_of(price: CentsPerMwh, share: TenThousandths) -> Result<CentsPerMwh, Refusal>
     ensures { λ r. ⌜ r ≡ rest-answer price share ⌝ }
 {
     if printed_out(price) {
@@ -125,7 +127,11 @@ pub fn rest_of(price: i64, share: i64) -> Result<i64, Refusal>
 }
 
 /// Line 5: the fixed and the variable part with the adders.
-pub fn block_subtotal(fixed: i64, variable: i64, adders: [i64; 3]) -> Result<i64, Refusal>
+pub fn block_subtotal(
+    fixed: CentsPerMwh,
+    variable: CentsPerMwh,
+    adders: [CentsPerMwh; 3],
+) -> Result<CentsPerMwh, Refusal>
     ensures { λ r. ⌜ r ≡ subtotal-answer fixed variable adders ⌝ }
 {
     if printed_out(fixed) || printed_out(variable) {
@@ -138,7 +144,7 @@ pub fn block_subtotal(fixed: i64, variable: i64, adders: [i64; 3]) -> Result<i64
 }
 
 /// Line 7: the cost component.
-pub fn cost_component(tranche: i64, block: i64) -> Result<i64, Refusal>
+pub fn cost_component(tranche: CentsPerMwh, block: CentsPerMwh) -> Result<CentsPerMwh, Refusal>
     ensures { λ r. ⌜ r ≡ component-answer tranche block ⌝ }
 {
     if printed_out(tranche) || printed_out(block) {
@@ -175,7 +181,7 @@ fn lines_of(tranches: &[Tranche], blocks: &[Block], terms: &Terms) -> SupplyLine
 }
 
 /// Line 1 of lawful tranches and seasons.
-fn seasonal_mean(tranches: &[Tranche], seasons: Seasons) -> i64
+fn seasonal_mean(tranches: &[Tranche], seasons: Seasons) -> CentsPerMwh
     requires tranches { ⌜ Lawful a-tranche (now tranches) ⌝ }
     requires seasons { ⌜ seasons-out seasons ≡ false ⌝ }
     ensures { λ r. ⌜ r ≡ tranche-average (now (tranches .entry)) seasons ⌝ }
@@ -194,7 +200,7 @@ fn season_weight(seasons: Seasons) -> i128
 }
 
 /// Line 3 of lawful blocks.
-fn mean(blocks: &[Block]) -> i64
+fn mean(blocks: &[Block]) -> CentsPerMwh
     requires { ⌜ Lawful a-block (now blocks) ⌝ }
     ensures { λ r. ⌜ r ≡ block-average (now (blocks .entry)) ⌝ }
 {
@@ -203,7 +209,7 @@ fn mean(blocks: &[Block]) -> i64
 }
 
 /// A lawful share of a price in range.
-fn part(price: i64, share: i64) -> i64
+fn part(price: CentsPerMwh, share: TenThousandths) -> CentsPerMwh
     requires price { ⌜ printed-out price ≡ false ⌝ }
     requires share { ⌜ share-out share ≡ false ⌝ }
     ensures { λ r. ⌜ r ≡ part-of price share ⌝ }
@@ -212,7 +218,7 @@ fn part(price: i64, share: i64) -> i64
 }
 
 /// What a lawful share leaves of a price in range.
-fn rest(price: i64, share: i64) -> i64
+fn rest(price: CentsPerMwh, share: TenThousandths) -> CentsPerMwh
     requires price { ⌜ printed-out price ≡ false ⌝ }
     requires share { ⌜ share-out share ≡ false ⌝ }
     ensures { λ r. ⌜ r ≡ rest-of price share ⌝ }
@@ -221,7 +227,7 @@ fn rest(price: i64, share: i64) -> i64
 }
 
 /// Line 5 of parts and adders in range.
-fn subtotal(fixed: i64, variable: i64, adders: &[i64; 3]) -> i64
+fn subtotal(fixed: CentsPerMwh, variable: CentsPerMwh, adders: &[CentsPerMwh; 3]) -> CentsPerMwh
     requires fixed { ⌜ printed-out fixed ≡ false ⌝ }
     requires variable { ⌜ printed-out variable ≡ false ⌝ }
     requires adders { ⌜ any price-out (now adders) ≡ false ⌝ }

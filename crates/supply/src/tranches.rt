@@ -1,5 +1,6 @@
 //! Tranches won at auction.
 ghost use Rattle.supply.specs.Lines.{a-tranche};
+use crate::CentsPerMwh;
 use crate::Weighted;
 
 /// The most tranches that one line may have.
@@ -11,7 +12,7 @@ pub struct Tranche {
     /// 1 to 100.
     pub count: u64,
     /// In cents per MWh, 0 to 100,000.
-    pub price: i64,
+    pub price: CentsPerMwh,
 }
 
 pub impl Weighted for Tranche as TrancheWeighted {
@@ -21,7 +22,7 @@ pub impl Weighted for Tranche as TrancheWeighted {
         self.count
     }
 
-    fn price(&self) -> i64 {
+    fn price(&self) -> CentsPerMwh {
         self.price
     }
 

@@ -3,6 +3,7 @@ ghost use mathlib.Core.Path.{_≡_};
 ghost use mathlib.Core.Bool.{false};
 ghost use Prim.Native.Nat.{_≤_};
 ghost use Rattle.supply.specs.Kinds.{Kind, Lawful, line-out, some-out, weighted-sum, weights, wrong-count};
+use crate::CentsPerMwh;
 use crate::ranges::price_out;
 use rounding::times;
 
@@ -19,7 +20,7 @@ pub trait Weighted {
         ensures { λ r. ⌜ r ≡ kind .weight (now (self .entry)) ⌝ };
 
     /// In cents per MWh.
-    fn price(&self) -> i64
+    fn price(&self) -> CentsPerMwh
         ensures { λ r. ⌜ r ≡ kind .price (now (self .entry)) ⌝ };
 
     /// The largest lawful weight.
