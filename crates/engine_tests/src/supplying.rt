@@ -254,6 +254,16 @@ fn the_order_of_refusals() -> Result<(), Fail> {
 }
 
 #[test]
+fn the_order_of_refusals_of_single_lines() -> Result<(), Fail> {
+    let late = seasons((100, 2), (100, 2));
+    check_eq(line(tranche_average(&[tranche(0, 1); 65], late)), Err(71))?;
+    check_eq(line(tranche_average(&[tranche(0, 1)], late)), Err(72))?;
+    check_eq(line(block_average(&[block(0, 1); 65])), Err(71))?;
+    check_eq(line(block_subtotal(-1, 0, [0, 0, -1])), Err(72))?;
+    check_eq(line(share_of(-1, -1)), Err(72))
+}
+
+#[test]
 fn terms_are_refused() -> Result<(), Fail> {
     let mut terms = autumn();
     terms.variable_price = 100_001;

@@ -5,7 +5,7 @@ pub mod reconciliation_rate;
 pub mod tax_rate;
 
 ghost use Prim.Native.Nat.{_≤_};
-ghost use lib.IntN.{natAbs};
+ghost use Rattle.reconciliation.specs.Figures.{WithinReach};
 
 /// Money in whole cents. A positive balance is an under-collection, a negative one an over-collection.
 #[derive(Clone, Copy, PartialEq, Eq, Debug)]
@@ -33,7 +33,7 @@ pub struct AnnualRate {
 #[derive(Clone, Copy)]
 pub struct ReconciliationRate {
     units: i64,
-    ghost small: { natAbs units ≤ 100000 },
+    ghost small: { WithinReach units },
 }
 
 /// The quantity projected for the months in which a reconciliation rate is billed, at least 1.

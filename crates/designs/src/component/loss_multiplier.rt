@@ -9,7 +9,7 @@ use crate::Refusal;
 impl LossMultiplier {
     /// The multiplier of this many ten-thousandths; refused unless 10,000 to 11,000.
     pub fn new(value: i64) -> Result<LossMultiplier, Refusal>
-        ensures { λ r. ⌜ Cases r (λ t. pos (t .value) ≡ value) (λ e. (e ≡ Refusal.FigureOutOfRange) × (LossRange value → ⊥)) ⌝ }
+        ensures { λ r. ⌜ Cases r (λ t. (pos (t .value) ≡ value) × LossRange value) (λ e. (e ≡ Refusal.FigureOutOfRange) × (LossRange value → ⊥)) ⌝ }
     {
         if value < 10_000 || value > 11_000 {
             return Err(Refusal::FigureOutOfRange);

@@ -9,7 +9,7 @@ use crate::Refusal;
 impl Component {
     /// The component of this many rate units; refused unless 0 to 100,000.
     pub fn new(units: i64) -> Result<Component, Refusal>
-        ensures { λ r. ⌜ Cases r (λ t. pos (t .units) ≡ units) (λ e. (e ≡ Refusal.FigureOutOfRange) × (ComponentRange units → ⊥)) ⌝ }
+        ensures { λ r. ⌜ Cases r (λ t. (pos (t .units) ≡ units) × ComponentRange units) (λ e. (e ≡ Refusal.FigureOutOfRange) × (ComponentRange units → ⊥)) ⌝ }
     {
         if units < 0 || units > 100_000 {
             return Err(Refusal::FigureOutOfRange);

@@ -13,7 +13,7 @@ current : (c : need.In-Continue-with-tax-3) → c .ptc-current .result .0 ≡ cu
 current c =
     let flat = c .in-Continue-new .field-0 in
     let figures = c .args .self .now .figures in
-    let is = c .in-Continue-new .ensures tt in
+    let is = c .in-Continue-new .ensures tt .0 in
     let a : SFits w64 (figures .cost) = search needs in
     let b : SFits w64 (figures .loss) = search needs in
     let d : SFits w64 (figures .adm) = search needs in
