@@ -1,4 +1,5 @@
 //! Class rate designs: what a period of hours is charged.
+#![tactic(auto)]
 mod component;
 mod flat;
 mod hourly;

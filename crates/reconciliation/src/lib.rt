@@ -1,4 +1,6 @@
 //! The rules of reconciliation: tax, net, carrying charge and the reconciliation rate E, with the figures that they are worked from.
+#![tactic(auto)]
+
 mod figures;
 mod refusal;
 mod rules;

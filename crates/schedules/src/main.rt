@@ -1,4 +1,5 @@
 //! Works five filed sheets by the engine, line by line, and prints each line beside the sheet's own figure.
+#![tactic(auto)]
 mod comparison;
 mod filing;
 mod line_name;

@@ -1,4 +1,5 @@
 //! The supply schedule: how a default-service cost component is worked from auction results. Prices are in cents per MWh.
+#![tactic(auto)]
 mod blocks;
 mod ranges;
 mod refusal;

@@ -1,5 +1,6 @@
 //! Runs one account through two terms and prints each answer; then for each term how far it is from recovering its filing, and the four
 //! allowances.
+#![tactic(auto)]
 mod month;
 mod plan;
 mod refused;

@@ -2,10 +2,10 @@ use Rattle.std.proofs.Common.{arith, to_z-of_z}
 use Rattle.supply.specs.Terms.{terms_out}
 use Rattle.supply.proofs.ranges.terms_out.Goals as goal
 
-pub returns-then-price-out : goal.returns-then-price-out
+pub returns-then-price_out : goal.returns-then-price_out
 unfolding terms_out
-returns-then-price-out c = grind (arith, to_z-of_z)
+returns-then-price_out c = grind (arith, to_z-of_z)
 
-pub returns-else-price-out : goal.returns-else-price-out
+pub returns-else-price_out : goal.returns-else-price_out
 unfolding terms_out
-returns-else-price-out c = grind (arith, to_z-of_z)
+returns-else-price_out c = grind (arith, to_z-of_z)

@@ -7,11 +7,11 @@ use Rattle.supply.proofs.Figured.{Between, printed_inside}
 use Rattle.supply.proofs.Sheet.{answered}
 use Rattle.supply.proofs.schedule.cost_component.Goals as goal
 
-tranche : (c : goal.Else-printed-out-2) → printed_out c.args.tranche ≡ false
-tranche c = ap printed_out (sym (to_z-of_z c.ranges.tranche)) ∙ sym c.if-printed-out.ensures
+tranche : (c : goal.Else-printed_out-2) → printed_out c.args.tranche ≡ false
+tranche c = ap printed_out (sym (to_z-of_z c.ranges.tranche)) ∙ sym c.if-printed_out.ensures
 
-block : (c : goal.Else-printed-out-2) → printed_out c.args.block ≡ false
-block c = ap printed_out (sym (to_z-of_z c.ranges.block)) ∙ sym c.if-printed-out-2.ensures
+block : (c : goal.Else-printed_out-2) → printed_out c.args.block ≡ false
+block c = ap printed_out (sym (to_z-of_z c.ranges.block)) ∙ sym c.if-printed_out-2.ensures
 
 -- the sum as the code has it
 module _ (a b : ℤ) (ha : Between 0 1000000 a) (hb : Between 0 1000000 b) where
@@ -21,8 +21,8 @@ module _ (a b : ℤ) (ha : Between 0 1000000 a) (hb : Between 0 1000000 b) where
   code : to_z w64 (of_z w64 (to_z w64 (of_z w64 a) +ℤ to_z w64 (of_z w64 b))) ≡ a +ℤ b
   code = omega (arith, ints, ha.0, ha.1, hb.0, hb.1)
 
-pub overflow-add-result : goal.overflow-add-result
-overflow-add-result c = fits c.args.tranche c.args.block (printed_inside c.args.tranche (tranche c)) (printed_inside c.args.block (block c))
+pub overflow_add-result : goal.overflow_add-result
+overflow_add-result c = fits c.args.tranche c.args.block (printed_inside c.args.tranche (tranche c)) (printed_inside c.args.block (block c))
 
 pub returns : goal.returns
 returns c =

@@ -84,33 +84,33 @@ module _ (tranches : List Tranche) (blocks : List Block) (terms : Terms) (ok : L
       let y = low_6 tranches blocks terms ok in
       omega (arith, ints, x.0, x.1, y.0, y.1, ap up ea, ap down ea, ap up eb, ap down eb)
 
-pub seasonal-mean-tranche-average-requires : goal.seasonal-mean-tranche-average-requires
-seasonal-mean-tranche-average-requires c = record { tranches = c.requires.tranches; seasons = (in_terms c.args.terms.now c.requires.terms).seasons }
+pub seasonal_mean-tranche_average-requires : goal.seasonal_mean-tranche_average-requires
+seasonal_mean-tranche_average-requires c = record { tranches = c.requires.tranches; seasons = (in_terms c.args.terms.now c.requires.terms).seasons }
 
-pub part-tranche-part-requires : goal.part-tranche-part-requires
-part-tranche-part-requires c =
+pub part-tranche_part-requires : goal.part-tranche_part-requires
+part-tranche_part-requires c =
     let tranches = c.args.tranches.now in
     let blocks = c.args.blocks.now in
     let terms = c.args.terms.now in
     let ok = lawful tranches blocks terms c.requires.tranches c.requires.blocks c.requires.terms (search rules) in
     record {
-      price = ready 200000 c.seasonal-mean-tranche-average.result (line_1 tranches blocks terms) (omega arith) c.seasonal-mean-tranche-average.ensures (low_1 tranches blocks terms ok);
+      price = ready 200000 c.seasonal_mean-tranche_average.result (line_1 tranches blocks terms) (omega arith) c.seasonal_mean-tranche_average.ensures (low_1 tranches blocks terms ok);
       share = share_ready terms.tranche_share ok.terms.tranche;
     }
 
-pub part-fixed-part-requires : goal.part-fixed-part-requires
-part-fixed-part-requires c =
+pub part-fixed_part-requires : goal.part-fixed_part-requires
+part-fixed_part-requires c =
     let tranches = c.args.tranches.now in
     let blocks = c.args.blocks.now in
     let terms = c.args.terms.now in
     let ok = lawful tranches blocks terms c.requires.tranches c.requires.blocks c.requires.terms (search rules) in
     record {
-      price = ready 100000 c.mean-block-average.result (line_3 tranches blocks terms) (omega arith) c.mean-block-average.ensures (low_3 tranches blocks terms ok);
+      price = ready 100000 c.mean-block_average.result (line_3 tranches blocks terms) (omega arith) c.mean-block_average.ensures (low_3 tranches blocks terms ok);
       share = share_ready terms.fixed_share ok.terms.fixed;
     }
 
-pub rest-variable-part-requires : goal.rest-variable-part-requires
-rest-variable-part-requires c =
+pub rest-variable_part-requires : goal.rest-variable_part-requires
+rest-variable_part-requires c =
     let tranches = c.args.tranches.now in
     let blocks = c.args.blocks.now in
     let terms = c.args.terms.now in
@@ -120,46 +120,46 @@ rest-variable-part-requires c =
       share = share_ready terms.fixed_share ok.terms.fixed;
     }
 
-pub subtotal-block-subtotal-requires : goal.subtotal-block-subtotal-requires
-subtotal-block-subtotal-requires c =
+pub subtotal-block_subtotal-requires : goal.subtotal-block_subtotal-requires
+subtotal-block_subtotal-requires c =
     let tranches = c.args.tranches.now in
     let blocks = c.args.blocks.now in
     let terms = c.args.terms.now in
     let ok = lawful tranches blocks terms c.requires.tranches c.requires.blocks c.requires.terms (search rules) in
-    let four = fixed_is tranches blocks terms ok c.part-fixed-part.result c.mean-block-average.result c.mean-block-average.ensures c.part-fixed-part.ensures in
-    let also = variable_is tranches blocks terms ok c.rest-variable-part.result c.rest-variable-part.ensures in
+    let four = fixed_is tranches blocks terms ok c.part-fixed_part.result c.mean-block_average.result c.mean-block_average.ensures c.part-fixed_part.ensures in
+    let also = variable_is tranches blocks terms ok c.rest-variable_part.result c.rest-variable_part.ensures in
     record {
-      fixed = ready 100000 c.part-fixed-part.result (fixed tranches blocks terms) (omega arith) four (low_fixed tranches blocks terms ok);
-      variable = ready 100000 c.rest-variable-part.result (variable tranches blocks terms) (omega arith) also (low_variable tranches blocks terms ok);
+      fixed = ready 100000 c.part-fixed_part.result (fixed tranches blocks terms) (omega arith) four (low_fixed tranches blocks terms ok);
+      variable = ready 100000 c.rest-variable_part.result (variable tranches blocks terms) (omega arith) also (low_variable tranches blocks terms ok);
       adders = ok.terms.adders;
     }
 
-pub rest-block-part-requires : goal.rest-block-part-requires
-rest-block-part-requires c =
+pub rest-block_part-requires : goal.rest-block_part-requires
+rest-block_part-requires c =
     let tranches = c.args.tranches.now in
     let blocks = c.args.blocks.now in
     let terms = c.args.terms.now in
     let ok = lawful tranches blocks terms c.requires.tranches c.requires.blocks c.requires.terms (search rules) in
-    let four = fixed_is tranches blocks terms ok c.part-fixed-part.result c.mean-block-average.result c.mean-block-average.ensures c.part-fixed-part.ensures in
-    let also = variable_is tranches blocks terms ok c.rest-variable-part.result c.rest-variable-part.ensures in
-    let five = subtotal_is tranches blocks terms ok c.subtotal-block-subtotal.result c.part-fixed-part.result c.rest-variable-part.result four also c.subtotal-block-subtotal.ensures in
+    let four = fixed_is tranches blocks terms ok c.part-fixed_part.result c.mean-block_average.result c.mean-block_average.ensures c.part-fixed_part.ensures in
+    let also = variable_is tranches blocks terms ok c.rest-variable_part.result c.rest-variable_part.ensures in
+    let five = subtotal_is tranches blocks terms ok c.subtotal-block_subtotal.result c.part-fixed_part.result c.rest-variable_part.result four also c.subtotal-block_subtotal.ensures in
     record {
-      price = ready 500000 c.subtotal-block-subtotal.result (line_5 tranches blocks terms) (omega arith) five (low_5 tranches blocks terms ok);
+      price = ready 500000 c.subtotal-block_subtotal.result (line_5 tranches blocks terms) (omega arith) five (low_5 tranches blocks terms ok);
       share = share_ready terms.tranche_share ok.terms.tranche;
     }
 
-pub overflow-add-result : goal.overflow-add-result
-overflow-add-result c =
+pub overflow_add-result : goal.overflow_add-result
+overflow_add-result c =
     let tranches = c.args.tranches.now in
     let blocks = c.args.blocks.now in
     let terms = c.args.terms.now in
     let ok = lawful tranches blocks terms c.requires.tranches c.requires.blocks c.requires.terms (search rules) in
-    let four = fixed_is tranches blocks terms ok c.part-fixed-part.result c.mean-block-average.result c.mean-block-average.ensures c.part-fixed-part.ensures in
-    let also = variable_is tranches blocks terms ok c.rest-variable-part.result c.rest-variable-part.ensures in
-    let five = subtotal_is tranches blocks terms ok c.subtotal-block-subtotal.result c.part-fixed-part.result c.rest-variable-part.result four also c.subtotal-block-subtotal.ensures in
-    let two = part_is tranches blocks terms ok c.part-tranche-part.result c.seasonal-mean-tranche-average.result c.seasonal-mean-tranche-average.ensures c.part-tranche-part.ensures in
-    let six = rest_is tranches blocks terms ok c.rest-block-part.result c.subtotal-block-subtotal.result five c.rest-block-part.ensures in
-    sum_fits tranches blocks terms ok c.part-tranche-part.result c.rest-block-part.result two six
+    let four = fixed_is tranches blocks terms ok c.part-fixed_part.result c.mean-block_average.result c.mean-block_average.ensures c.part-fixed_part.ensures in
+    let also = variable_is tranches blocks terms ok c.rest-variable_part.result c.rest-variable_part.ensures in
+    let five = subtotal_is tranches blocks terms ok c.subtotal-block_subtotal.result c.part-fixed_part.result c.rest-variable_part.result four also c.subtotal-block_subtotal.ensures in
+    let two = part_is tranches blocks terms ok c.part-tranche_part.result c.seasonal_mean-tranche_average.result c.seasonal_mean-tranche_average.ensures c.part-tranche_part.ensures in
+    let six = rest_is tranches blocks terms ok c.rest-block_part.result c.subtotal-block_subtotal.result five c.rest-block_part.ensures in
+    sum_fits tranches blocks terms ok c.part-tranche_part.result c.rest-block_part.result two six
 
 pub returns : goal.returns
 unfolding lines_of
@@ -168,30 +168,30 @@ returns c =
     let blocks = c.args.blocks.now in
     let terms = c.args.terms.now in
     let ok = lawful tranches blocks terms c.requires.tranches c.requires.blocks c.requires.terms (search rules) in
-    let two = part_is tranches blocks terms ok c.part-tranche-part.result c.seasonal-mean-tranche-average.result c.seasonal-mean-tranche-average.ensures c.part-tranche-part.ensures in
-    let four = fixed_is tranches blocks terms ok c.part-fixed-part.result c.mean-block-average.result c.mean-block-average.ensures c.part-fixed-part.ensures in
-    let also = variable_is tranches blocks terms ok c.rest-variable-part.result c.rest-variable-part.ensures in
-    let five = subtotal_is tranches blocks terms ok c.subtotal-block-subtotal.result c.part-fixed-part.result c.rest-variable-part.result four also c.subtotal-block-subtotal.ensures in
-    let six = rest_is tranches blocks terms ok c.rest-block-part.result c.subtotal-block-subtotal.result five c.rest-block-part.ensures in
+    let two = part_is tranches blocks terms ok c.part-tranche_part.result c.seasonal_mean-tranche_average.result c.seasonal_mean-tranche_average.ensures c.part-tranche_part.ensures in
+    let four = fixed_is tranches blocks terms ok c.part-fixed_part.result c.mean-block_average.result c.mean-block_average.ensures c.part-fixed_part.ensures in
+    let also = variable_is tranches blocks terms ok c.rest-variable_part.result c.rest-variable_part.ensures in
+    let five = subtotal_is tranches blocks terms ok c.subtotal-block_subtotal.result c.part-fixed_part.result c.rest-variable_part.result four also c.subtotal-block_subtotal.ensures in
+    let six = rest_is tranches blocks terms ok c.rest-block_part.result c.subtotal-block_subtotal.result five c.rest-block_part.ensures in
     let value : ◌≡◌ {A = SupplyLines}
     (record {
-      tranche_average = bits c.seasonal-mean-tranche-average.result;
-      tranche_part = bits c.part-tranche-part.result;
-      block_average = bits c.mean-block-average.result;
-      fixed_part = bits c.part-fixed-part.result;
-      variable_part = bits c.rest-variable-part.result;
-      block_subtotal = bits c.subtotal-block-subtotal.result;
-      block_part = bits c.rest-block-part.result;
-      cost_component = bits (bits c.part-tranche-part.result +ℤ bits c.rest-block-part.result);
+      tranche_average = bits c.seasonal_mean-tranche_average.result;
+      tranche_part = bits c.part-tranche_part.result;
+      block_average = bits c.mean-block_average.result;
+      fixed_part = bits c.part-fixed_part.result;
+      variable_part = bits c.rest-variable_part.result;
+      block_subtotal = bits c.subtotal-block_subtotal.result;
+      block_part = bits c.rest-block_part.result;
+      cost_component = bits (bits c.part-tranche_part.result +ℤ bits c.rest-block_part.result);
     })
     (lines_of tranches blocks terms) =
     eight _ _ _ _ _ _ _ _ _ _ _ _ _ _ _ _
-    (handed 200000 c.seasonal-mean-tranche-average.result (line_1 tranches blocks terms) (omega arith) c.seasonal-mean-tranche-average.ensures (low_1 tranches blocks terms ok))
-    (handed 200000 c.part-tranche-part.result (line_2 tranches blocks terms) (omega arith) two (low_2 tranches blocks terms ok))
-    (handed 100000 c.mean-block-average.result (line_3 tranches blocks terms) (omega arith) c.mean-block-average.ensures (low_3 tranches blocks terms ok))
-    (handed 100000 c.part-fixed-part.result (fixed tranches blocks terms) (omega arith) four (low_fixed tranches blocks terms ok))
-    (handed 100000 c.rest-variable-part.result (variable tranches blocks terms) (omega arith) also (low_variable tranches blocks terms ok))
-    (handed 500000 c.subtotal-block-subtotal.result (line_5 tranches blocks terms) (omega arith) five (low_5 tranches blocks terms ok))
-    (handed 500000 c.rest-block-part.result (line_6 tranches blocks terms) (omega arith) six (low_6 tranches blocks terms ok))
-    (sum_is tranches blocks terms ok c.part-tranche-part.result c.rest-block-part.result two six) in
+    (handed 200000 c.seasonal_mean-tranche_average.result (line_1 tranches blocks terms) (omega arith) c.seasonal_mean-tranche_average.ensures (low_1 tranches blocks terms ok))
+    (handed 200000 c.part-tranche_part.result (line_2 tranches blocks terms) (omega arith) two (low_2 tranches blocks terms ok))
+    (handed 100000 c.mean-block_average.result (line_3 tranches blocks terms) (omega arith) c.mean-block_average.ensures (low_3 tranches blocks terms ok))
+    (handed 100000 c.part-fixed_part.result (fixed tranches blocks terms) (omega arith) four (low_fixed tranches blocks terms ok))
+    (handed 100000 c.rest-variable_part.result (variable tranches blocks terms) (omega arith) also (low_variable tranches blocks terms ok))
+    (handed 500000 c.subtotal-block_subtotal.result (line_5 tranches blocks terms) (omega arith) five (low_5 tranches blocks terms ok))
+    (handed 500000 c.rest-block_part.result (line_6 tranches blocks terms) (omega arith) six (low_6 tranches blocks terms ok))
+    (sum_is tranches blocks terms ok c.part-tranche_part.result c.rest-block_part.result two six) in
     record { value = value; in_a_row = rw value (line_by_line tranches blocks terms ok) }

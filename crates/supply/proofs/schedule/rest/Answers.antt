@@ -11,8 +11,8 @@ use Rattle.supply.proofs.schedule.rest.Goals as goal
 code : (share : ℤ) → Between 0 10000 share → to_z w64 (of_z w64 (pos 10000 -ℤ to_z w64 (of_z w64 share))) ≡ pos 10000 -ℤ share
 code share s = omega (arith, ints, s.0, s.1)
 
-pub overflow-sub-share : goal.overflow-sub-share
-overflow-sub-share c = let s = share_inside c.args.share c.requires.share in omega (arith, ints, s.0, s.1)
+pub overflow_sub-share : goal.overflow_sub-share
+overflow_sub-share c = let s = share_inside c.args.share c.requires.share in omega (arith, ints, s.0, s.1)
 
 pub part-requires : goal.part-requires
 part-requires c =

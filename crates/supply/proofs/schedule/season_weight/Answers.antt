@@ -40,8 +40,8 @@ winter : (c : goal.After-times-2) → c.times-2.result ≡ pos c.args.seasons.wi
 winter c =
     product c.args.seasons.winter.months c.args.seasons.winter.factor c.times-2.result (in_season c.args.seasons c.requires).winter c.times-2.ensures.value
 
-pub overflow-add-result : goal.overflow-add-result
-overflow-add-result c = fits c.args.seasons (in_season c.args.seasons c.requires) c.times.result c.times-2.result (summer c) (winter c)
+pub overflow_add-result : goal.overflow_add-result
+overflow_add-result c = fits c.args.seasons (in_season c.args.seasons c.requires) c.times.result c.times-2.result (summer c) (winter c)
 
 pub returns : goal.returns
 returns c =

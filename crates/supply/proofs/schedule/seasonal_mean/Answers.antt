@@ -19,41 +19,41 @@ by_season seasons r ok e = rw e (wider 600 10000 (season_weight seasons) (omega 
 sum : (tranches : List Tranche) (r : ℤ) → Lawful a_tranche tranches → r ≡ weighted_sum a_tranche tranches → Between 0 64000000000000 r
 sum tranches r ok e = let s = small a_tranche tranches (omega arith) ok in rw e (s.low, s.high)
 
-pub overflow-mul-season-weight : goal.overflow-mul-season-weight
-overflow-mul-season-weight c =
+pub overflow_mul-season_weight : goal.overflow_mul-season_weight
+overflow_mul-season_weight c =
     product_fits c.season_weight.result c.totals-weighted.result.weighted 64000000000000
     (by_season c.args.seasons c.season_weight.result c.requires.seasons c.season_weight.ensures)
     (sum c.args.tranches.now c.totals-weighted.result.weighted c.requires.tranches c.totals-weighted.ensures.weighted) (omega arith)
 
-pub overflow-mul-weights : goal.overflow-mul-weights
-overflow-mul-weights c = let s = small a_tranche c.args.tranches.now (omega arith) c.requires.tranches in let n = c.totals-weighted.ensures.weights in omega arith
+pub overflow_mul-weights : goal.overflow_mul-weights
+overflow_mul-weights c = let s = small a_tranche c.args.tranches.now (omega arith) c.requires.tranches in let n = c.totals-weighted.ensures.weights in omega arith
 
-pub round-rate-requires : goal.round-rate-requires
-round-rate-requires c =
+pub round_rate-requires : goal.round_rate-requires
+round_rate-requires c =
     let tranches = c.args.tranches.now in
     let some = weights_low a_tranche tranches (right_count tranches c.requires.tranches.0).0 (all_in_range a_tranche tranches c.requires.tranches.1) in
     let n = c.totals-weighted.ensures.weights in
     omega arith
 
-value : (c : goal.After-round-rate) → c.round-rate.result ≡ tranche_average c.args.tranches.now c.args.seasons
+value : (c : goal.After-round_rate) → c.round_rate.result ≡ tranche_average c.args.tranches.now c.args.seasons
 unfolding tranche_average
 value c =
     let product = product_is c.season_weight.result c.totals-weighted.result.weighted 64000000000000
     (by_season c.args.seasons c.season_weight.result c.requires.seasons c.season_weight.ensures)
     (sum c.args.tranches.now c.totals-weighted.result.weighted c.requires.tranches c.totals-weighted.ensures.weighted) (omega arith) in
-    let h = c.round-rate.ensures.value in
+    let h = c.round_rate.ensures.value in
     let x = c.season_weight.ensures in
     let y = c.totals-weighted.ensures.weighted in
     let n = c.totals-weighted.ensures.weights in
     cc
 
-range : (c : goal.After-round-rate) → Between 0 1000000 c.round-rate.result
+range : (c : goal.After-round_rate) → Between 0 1000000 c.round_rate.result
 range c =
     let tranches = c.args.tranches.now in
     rw (value c) (wider 200000 1000000 (tranche_average tranches c.args.seasons) (omega arith) (tranche_average_between tranches c.args.seasons c.requires.tranches c.requires.seasons))
 
-pub overflow-cast-result : goal.overflow-cast-result
-overflow-cast-result c = cast_fits c.round-rate.result (range c)
+pub overflow_cast-result : goal.overflow_cast-result
+overflow_cast-result c = cast_fits c.round_rate.result (range c)
 
 pub returns : goal.returns
-returns c = cast_is c.round-rate.result (range c) ∙ value c
+returns c = cast_is c.round_rate.result (range c) ∙ value c

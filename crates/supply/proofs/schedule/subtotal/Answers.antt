@@ -7,8 +7,8 @@ use Rattle.supply.proofs.Figured.{Between, printed_inside}
 use Rattle.supply.proofs.Sheet.{running}
 use Rattle.supply.proofs.schedule.subtotal.Goals as goal
 
-pub overflow-add-total : goal.overflow-add-total
-overflow-add-total c =
+pub overflow_add-total : goal.overflow_add-total
+overflow_add-total c =
     let f = printed_inside c.args.fixed c.requires.fixed in
     let v = printed_inside c.args.variable c.requires.variable in
     omega (arith, ints, f.0, f.1, v.0, v.1)
@@ -32,8 +32,8 @@ turn c =
     let inv = simp (c.loop-adder.total-is, same fixed f, same variable v) at c.loop-adder.invariant in
     running fixed variable c.args.adders.now c.loop-adder.adder-index c.loop-adder.total f v c.requires.adders c.told-adders c.loop-adder-test.true inv
 
-pub overflow-add-total-in-loop-adder : goal.overflow-add-total-in-loop-adder
-overflow-add-total-in-loop-adder c = let t = turn c in omega (arith, ints, t.0.0, t.0.1, t.1.0, t.1.1)
+pub overflow_add-total-in-loop-adder : goal.overflow_add-total-in-loop-adder
+overflow_add-total-in-loop-adder c = let t = turn c in omega (arith, ints, t.0.0, t.0.1, t.1.0, t.1.1)
 
 pub loop-adder-preserved : goal.loop-adder-preserved
 loop-adder-preserved c =

@@ -9,17 +9,17 @@ pub loop-line-init : goal.loop-line-init
 unfolding any
 loop-line-init g c = refl
 
-pub returns-then-line-out : goal.returns-then-line-out
-returns-then-line-out g c =
+pub returns-then-line_out : goal.returns-then-line_out
+returns-then-line_out g c =
     let kind = g.L.Weighted.kind in
     sym (passes_at (line_out kind) c.args.lines.now c.loop-line.line-index c.line-item.result c.loop-line-test.true
-    (ap (line_out kind) (sym c.line-item.is) ∙ sym c.if-line-out.ensures))
+    (ap (line_out kind) (sym c.line-item.is) ∙ sym c.if-line_out.ensures))
 
 pub loop-line-preserved : goal.loop-line-preserved
 loop-line-preserved g c =
     let kind = g.L.Weighted.kind in
     none_more (line_out kind) c.args.lines.now c.loop-line.line-index c.line-item.result c.loop-line-test.true c.loop-line.invariant
-    (ap (line_out kind) (sym c.line-item.is) ∙ sym c.if-line-out.ensures)
+    (ap (line_out kind) (sym c.line-item.is) ∙ sym c.if-line_out.ensures)
 
 pub returns : goal.returns
 returns g c =

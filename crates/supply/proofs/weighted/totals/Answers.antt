@@ -16,20 +16,20 @@ next : (g : given.Over) (c : goal.After-times-weighted g)
     → c.loop-line.weighted +ℤ c.times-weighted.result ≡ weighted_sum g.L.Weighted.kind (take (c.loop-line.line-index + 1) c.args.lines.now)
 next g c =
     let inv = simp c.loop-line.weighted-is at c.loop-line.invariant in
-    let price = to_z-of_z {w = w64} {z = c.price.result} (record { sfits = c.price.type-inv }) in
+    let price = to_z-of_z {w = w64} {z = c.price.result} (record { sfits = c.price.type_inv }) in
     grown g.L.Weighted.kind c.args.lines.now c.loop-line.line-index c.line-item.result c.loop-line.weighted c.times-weighted.result
     c.price.result c.weight-weight.result c.loop-line-test.true c.line-item.is inv.0 c.weight-weight.ensures c.price.ensures
     (c.times-weighted.ensures.value ∙ ap (λ p. pos c.weight-weight.result *ℤ p) price)
 
-pub overflow-add-weighted : goal.overflow-add-weighted
-overflow-add-weighted g c =
+pub overflow_add-weighted : goal.overflow_add-weighted
+overflow_add-weighted g c =
     let kind = g.L.Weighted.kind in
     let s = small_part kind c.args.lines.now (c.loop-line.line-index + 1) g.met.L.Weighted.small c.requires in
     let n = next g c in
     omega (arith, ints, ap up n, ap down n)
 
-pub overflow-add-weights : goal.overflow-add-weights
-overflow-add-weights g c =
+pub overflow_add-weights : goal.overflow_add-weights
+overflow_add-weights g c =
     let kind = g.L.Weighted.kind in
     let s = small_part kind c.args.lines.now (c.loop-line.line-index + 1) g.met.L.Weighted.small c.requires in
     let n = heavier kind c.args.lines.now c.loop-line.line-index c.line-item.result c.loop-line.weights c.weight-weight.result

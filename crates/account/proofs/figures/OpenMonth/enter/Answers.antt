@@ -6,7 +6,7 @@ use Rattle.account.proofs.figures.OpenMonth.enter.Goals as goal
 
 pub returns : goal.returns
 returns c =
-    let is = c.in-ok-new.ensures in
+    let is = c.in_ok-new.ensures in
     let same : c.number.result ≡ c.args.kind = c.number.ensures ∙ is.0 in
     let fits : SFits w64 c.args.amount.0 = search rules in
     let line = c.requires.0 (c.number.result - 1) (omega arith) in

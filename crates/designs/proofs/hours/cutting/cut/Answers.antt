@@ -15,16 +15,16 @@ returns-then-count-eq0 c =
       lawful = h.1;
     }
 
-pub returns-in-err-check-hours : goal.returns-in-err-check-hours
-returns-in-err-check-hours c =
+pub returns-in_err-check_hours : goal.returns-in_err-check_hours
+returns-in_err-check_hours c =
     let p = err_from_is_err_and c.from-residual.result c.from-residual.ensures.1 in
     let held = c.args.held.now in
     let start = c.args.start in
     let count = c.args.count in
     let part = part_of held start count in
-    let e = c.in-err-check-hours.field-0.0 in
+    let e = c.in_err-check_hours.field-0.0 in
     let same : take (start + count - start) (drop start held) ≡ part = ap (λ n. take n (drop start held)) (omega arith) in
-    let some = told (refused_from 0 (take (start + count - start) (drop start held))) tt e c.in-err-check-hours.ensures in
+    let some = told (refused_from 0 (take (start + count - start) (drop start held))) tt e c.in_err-check_hours.ensures in
     let h = hours_refused held start count c.if-count-eq0.false c.if-count-gt840.false (omega arith) e (ap (refused_from 0) (sym same) ∙ some) in
     rw (p.1, p.2) (record { value = sym (ap (λ (o : Option PeriodRefusal). answer_unless o part) h.0); lawful = h.1 })
 
@@ -35,6 +35,6 @@ returns c =
     let count = c.args.count in
     let part = part_of held start count in
     let same : take (start + count - start) (drop start held) ≡ part = ap (λ n. take n (drop start held)) (omega arith) in
-    let none = answered (refused_from 0 (take (start + count - start) (drop start held))) tt c.in-ok-check-hours.ensures in
+    let none = answered (refused_from 0 (take (start + count - start) (drop start held))) tt c.in_ok-check_hours.ensures in
     let h = hours_lawful held start count c.if-count-eq0.false c.if-count-gt840.false (omega arith) (ap (refused_from 0) (sym same) ∙ none) in
     rw same (record { value = sym (ap (λ (o : Option PeriodRefusal). answer_unless o part) h.0); lawful = h.1 })

@@ -4,11 +4,11 @@ use Rattle.schedules.specs.Rates.{current_of, rate_worked}
 use Rattle.schedules.proofs.rate_page.RatePage.worked.Goals as goal
 
 -- PTC_Current, by the figures as the page has them
-current : (c : goal.In-ok-with-tax-3) → c.ptc_current.result.0 ≡ current_of c.args.self.now.figures
+current : (c : goal.In_ok-with_tax-3) → c.ptc_current.result.0 ≡ current_of c.args.self.now.figures
 current c =
-    let flat = c.in-ok-new.field-0 in
+    let flat = c.in_ok-new.field-0 in
     let figures = c.args.self.now.figures in
-    let is = c.in-ok-new.ensures.0 in
+    let is = c.in_ok-new.ensures.0 in
     let a : SFits w64 figures.cost = search rules in
     let b : SFits w64 figures.loss = search rules in
     let d : SFits w64 figures.adm = search rules in
