@@ -1,7 +1,7 @@
 -- The checks of a bill are the period's and the month's.
 use Rattle.std.proofs.Common.{◌≡◌, ℕ, ◌<◌, Bool, false, List, [], ◌∷◌, ◌++◌, map, ℤ, leb-false}
 use borrow.Author.Tests.{lt-leb}
-use Rattle.std.proofs.ByRecursion.{AllAppend}
+use Rattle.std.proofs.ByRecursion.{All-append}
 use Rattle.designs.specs.Cutting.{period_checks}
 use Rattle.designs.specs.declared.hours.Hour.{Hour}
 use Rattle.designs.specs.declared.refusal.PeriodRefusal.{PeriodRefusal}
@@ -37,5 +37,5 @@ module _ (t : OpenMonth) (held : List Hour) (start count : ℕ) (amount : ℤ) (
   -- any month with room would take the bill
   pub where_room : (other : OpenMonth) → other.bills < most_bills → Passed (bill_checks other held start count amount)
   where_room other room =
-      AllAppend (λ (check : Bool × BillRefusal). check.0 ≡ false) (map of_its_period (period_checks held start count)) (month_checks other amount)
+      All-append (λ (check : Bool × BillRefusal). check.0 ≡ false) (map of_its_period (period_checks held start count)) (month_checks other amount)
       parts.0 (lt-leb most_bills other.bills room, parts.1.1)

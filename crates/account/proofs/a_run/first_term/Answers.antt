@@ -19,7 +19,7 @@ returns g c =
       second = c.in-Ok-file-2.second;
       closing = c.close.result;
       reclosing = c.close-2.result;
-      e = c.in-default-force.field-0;
+      e = c.in_default-force.field-0;
       bill = c.in-Ok-bill.field-0;
     } in
     ran g.D.RateDesign.meaning c.args.opening
@@ -32,7 +32,7 @@ returns g c =
       refiles = answered c.in-Ok-file-2.is c.file-2.ensures;
       closes = c.close.ensures;
       recloses = c.close-2.ensures;
-      forces = answered c.in-default-force.is c.force.ensures;
+      forces = answered c.in_default-force.is c.force.ensures;
       bills = answered c.in-Ok-bill.is c.bill.ensures;
       costs = answered c.in-Ok-cost.is c.cost.ensures;
     })

@@ -21,7 +21,7 @@ loop-adder-init c =
     omega (arith, ints, f.0, f.1, v.0, v.1)
 
 -- what `running` says at a turn
-turn : (c : goal.After-total·1)
+turn : (c : goal.After-total-1)
     → Between 0 2300000 c.loop-adder.total × Between 0 100000 (get_or c.args.adders.now c.loop-adder.adder-index (pos 0))
     × (c.loop-adder.total +ℤ get_or c.args.adders.now c.loop-adder.adder-index (pos 0) ≡ subtotal_of c.args.fixed c.args.variable (take (c.loop-adder.adder-index + 1) c.args.adders.now))
 turn c =

@@ -17,7 +17,7 @@ returns-then-count-eq0 c =
 
 pub returns-in_err-check_hours : goal.returns-in_err-check_hours
 returns-in_err-check_hours c =
-    let p = err_from_is_err_and c.from-residual.result c.from-residual.ensures.1 in
+    let p = err_from_is_err_and c.from_residual.result c.from_residual.ensures.1 in
     let held = c.args.held.now in
     let start = c.args.start in
     let count = c.args.count in
