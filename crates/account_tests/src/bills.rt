@@ -2,6 +2,7 @@
 use crate::common::*;
 use account::{Account, BillRefusal};
 use designs::{Flat, Hour, Hourly, HourlyFigures, RateDesign};
+use std::test::Fail;
 
 /// The place of the hour that a bill is refused for.
 fn place(refusal: BillRefusal) -> Option<usize> {

@@ -4,6 +4,7 @@ use account::{Account, Closing};
 use designs::{Flat, Hourly, HourlyFigures, RateDesign};
 use reconciliation::Cents;
 use std::process::Abort;
+use std::test::Fail;
 
 /// What a closing told, or the refusal's number with whether the account was then as before.
 fn closing<D: RateDesign>(account: &mut Account<D>) -> Result<Closing, (u8, bool)> {

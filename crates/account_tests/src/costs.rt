@@ -3,6 +3,7 @@ use crate::common::*;
 use account::{Account, CostKind, CostLine};
 use designs::Flat;
 use reconciliation::Cents;
+use std::test::Fail;
 
 /// What entering a cost told, 0 or the number of the refusal, and whether the account was then as before.
 fn entered(account: &mut Account<Flat>, kind: u64, amount: i64) -> (u8, bool) {

@@ -4,6 +4,7 @@ use account::{Account, Draft, Filing, Pending};
 use designs::Flat;
 use reconciliation::{Cents, RateUnits};
 use std::process::Abort;
+use std::test::Fail;
 
 /// The sum of a draft of these projections, or the number of the refusal.
 fn drafted(first: u64, second: u64, third: u64) -> Result<u64, u8> {

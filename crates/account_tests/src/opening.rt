@@ -2,6 +2,7 @@
 use crate::common::*;
 use account::Account;
 use designs::Flat;
+use std::test::Fail;
 
 /// What an opening of this account told, 0 or the number of the refusal, and whether the account was then as before.
 fn tried(

@@ -4,6 +4,7 @@ use account::{Account, Closing};
 use designs::Flat;
 use reconciliation::Cents;
 use std::process::Abort;
+use std::test::Fail;
 
 /// A cost or a bill of the open month.
 #[derive(Clone, Copy)]

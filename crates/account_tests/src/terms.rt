@@ -3,6 +3,7 @@ use crate::common::*;
 use account::{Account, Draft, Reading, first_term, worked_months};
 use designs::Flat;
 use reconciliation::{Cents, RateUnits};
+use std::test::Fail;
 
 /// A first term of an account that begins with this balance, from the same two drafts.
 fn run(balance: i64, held: u64) -> Result<Option<Reading>, Fail> {
