@@ -23,7 +23,7 @@ use Rattle.account.specs.declared.filings.Draft.{Draft}
 use Rattle.account.specs.declared.filings.Filing.{Filing}
 use Rattle.account.specs.declared.refusal.Refusal.{Refusal}
 use Rattle.account.specs.Lawful.{no_entries}
-use Rattle.account.specs.Rules.{opened, open_checks, open_rule, outside, entered, cost_checks, costed as with-cost-in, cost_rule, bill_told, bill_checks, billed_to, bill_rule, costs_of, balance_before, balance_after, closing_of, close_checks, closed as Closed-at, close_rule, e_filed, filing_at, pending_at, file_checks, filed as filed-at, file_rule, is_pending, recorded, force_checks, in_force as forced-in, force_rule, withdrawn, withdraw_checks, withdraw_rule}
+use Rattle.account.specs.Rules.{opened, open_checks, open_rule, outside, entered, cost_checks, costed as with_cost_in, cost_rule, bill_told, bill_checks, billed_to, bill_rule, costs_of, balance_before, balance_after, closing_of, close_checks, closed as ClosedAt, close_rule, e_filed, filing_at, pending_at, file_checks, filed as filed_at, file_rule, is_pending, recorded, force_checks, in_force as forced_in, force_rule, withdrawn, withdraw_checks, withdraw_rule}
 use Rattle.account.specs.Calls.{Call, Answer, rule, accepted, History, outcomes, Opens, LeadsTo}
 use Rattle.account.specs.Calls.Call.{cost, bill, close, file, force, withdraw, read}
 use Rattle.account.specs.Journal.{Filed, InForce, Journal, Month, months, total_of, costs_in, billed_in, quantity_in, before, tax_in_force, last_from, last_balance, made, own_filing, e_of, in_force, filing_now, added, journal}
@@ -131,7 +131,7 @@ module _ {D : Type 0} (o : Opening D) (j : Journal D) (f : Figures D) (a : Agree
   module _ (m : D → Meaning) where
     after_cost : (kind : ℕ) (amount : ℤ) → After m o j (cost kind amount) (cost_rule f kind amount)
     after_cost kind amount =
-        by_checks (After m o j (cost kind amount)) (cost_checks f.ledger.month kind amount) tt f (with-cost-in f kind amount) (λ _. a) λ passed. record {
+        by_checks (After m o j (cost kind amount)) (cost_checks f.ledger.month kind amount) tt f (with_cost_in f kind amount) (λ _. a) λ passed. record {
           terms = a.terms;
           rate = a.rate;
           closings = a.closings;
@@ -172,7 +172,7 @@ module _ {D : Type 0} (o : Opening D) (j : Journal D) (f : Figures D) (a : Agree
 
     after_close : After m o j close (close_rule f)
     after_close =
-        by_checks (After m o j close) (close_checks f.terms f.ledger) (closing_of f.terms f.ledger) f (Closed-at f (balance_after f.terms f.ledger)) (λ _. a) λ _. record {
+        by_checks (After m o j close) (close_checks f.terms f.ledger) (closing_of f.terms f.ledger) f (ClosedAt f (balance_after f.terms f.ledger)) (λ _. a) λ _. record {
           terms = a.terms;
           rate = a.rate;
           closings = record {
@@ -185,7 +185,7 @@ module _ {D : Type 0} (o : Opening D) (j : Journal D) (f : Figures D) (a : Agree
 
     after_file : (draft : Draft) → After m o j (file draft) (file_rule f draft)
     after_file draft =
-        by_checks (After m o j (file draft)) (file_checks f draft) (filing_at f e) f (filed-at f e) (λ _. a) λ passed. record {
+        by_checks (After m o j (file draft)) (file_checks f draft) (filing_at f e) f (filed_at f e) (λ _. a) λ passed. record {
           terms = a.terms;
           rate = a.rate;
           closings = a.closings;
@@ -209,7 +209,7 @@ module _ {D : Type 0} (o : Opening D) (j : Journal D) (f : Figures D) (a : Agree
 
     after_force : (filing : Filing) (design : D) → After m o j (force filing design) (force_rule f filing design)
     after_force filing design =
-        by_checks (After m o j (force filing design)) (force_checks f filing) (recorded f.pending).e f (forced-in f design) (λ _. a) λ passed.
+        by_checks (After m o j (force filing design)) (force_checks f filing) (recorded f.pending).e f (forced_in f design) (λ _. a) λ passed.
         let w = own_of filing passed in
         record {
           terms = a.terms;

@@ -1,5 +1,5 @@
 -- The run of the first term, from what its calls ensure.
-use Rattle.std.proofs.Common.{◌≡◌, ℕ, ◌+◌, Bool, true, false, cond, List, [], ◌∷◌, length, is_ok, Ok, Result, sym, refl, ap, ◌∙◌, subst, arith, eq-eqb}
+use Rattle.std.proofs.Common.{◌≡◌, ℕ, ◌+◌, Bool, true, false, cond, [], ◌∷◌, length, is_ok, Ok, Result, sym, refl, ap, ◌∙◌, subst, arith, eq-eqb}
 use borrow.Author.Tests.{both_ways}
 use Rattle.designs.specs.Cutting.{part_of}
 use Rattle.designs.specs.Meanings.{Meaning}
@@ -13,11 +13,11 @@ use Rattle.account.specs.declared.filings.Draft.{Draft}
 use Rattle.account.specs.declared.filings.Filing.{Filing}
 use Rattle.account.specs.declared.opening.Opening.{Opening}
 use Rattle.account.specs.declared.refusal.Refusal.{Refusal}
-use Rattle.account.specs.Calls.{History, LeadsTo, Step, outcomes}
+use Rattle.account.specs.Calls.{History, LeadsTo, outcomes}
 use Rattle.account.specs.Calls.Call.{cost, bill, close, file, force, withdraw, read}
 use Rattle.account.specs.FirstTerm.{Asked, Ran, second_filing, term_made, until_force}
 use Rattle.account.specs.Journal.{Filed, Journal, added, bill_of, e_of, filing_now, journal, made, own_filing, tax_in_force}
-use Rattle.account.specs.Journal.Entry.{costed, billed, filed as filed-entry, forced}
+use Rattle.account.specs.Journal.Entry.{costed, billed, filed as filed_entry}
 use Rattle.account.specs.Laws.{EveryRun, Laws, Reordered, Taken, Term}
 use Rattle.account.specs.Laws.Reordered.{same, swapped}
 use Rattle.account.proofs.Agree.{agree}
@@ -91,7 +91,7 @@ module _ {D : Type 0} (m : D → Meaning) (o : Opening D) (a : Asked D) (s : Sta
 
   -- the journal before the second filing
   abbrev first_filed : Journal D
-  first_filed = filed-entry (filing_now o [] a.draft.sum.units) ∷ []
+  first_filed = filed_entry (filing_now o [] a.draft.sum.units) ∷ []
 
   abbrev before_second : Journal D
   before_second = added m o first_filed (is_ok s.number) (withdraw s.first)
@@ -137,7 +137,7 @@ module _ {D : Type 0} (m : D → Meaning) (o : Opening D) (a : Asked D) (s : Sta
         conserved = laws.conservation;
         term = term;
         recovered = (laws.recovery (second_filing o a) a.design (term_made m o a) term).recovered;
-        either_order = λ h' f' w' same-calls.
-            let all = laws.order h' f' w' (subst (Reordered _) (sym same-calls) (same read (swapped (cost 1 a.amount) (bill a.held 0 (length a.held)) (until_force a s.first s.second) refl refl))) taken in
+        either_order = λ h' f' w' same_calls.
+            let all = laws.order h' f' w' (subst (Reordered _) (sym same_calls) (same read (swapped (cost 1 a.amount) (bill a.held 0 (length a.held)) (until_force a s.first s.second) refl refl))) taken in
             (all.0, all.2);
       }

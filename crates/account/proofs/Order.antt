@@ -53,13 +53,13 @@ module _ (lines : List CostLine) (i j : ℕ) (x y : ℤ) (in-i : i < length line
 
   -- where both lines had room one after the other, they have it in the other order
   room_swap : (n : ℕ) → (line_at lines j).count < n → (line_at (enter lines j y) i).count < n → ((line_at lines i).count < n) × ((line_at (enter lines i x) j).count < n)
-  room_swap n room-j room-i = ⊎_elim alike apart (cases_eq i j)
+  room_swap n room_j room_i = ⊎_elim alike apart (cases_eq i j)
     where
       alike : i ≡ j → ((line_at lines i).count < n) × ((line_at (enter lines i x) j).count < n)
       alike e =
           let p = ap (λ line. line.count) (get_or-set_same lines j (entered (line_at lines j) y) no_entries in-j) in
           let q = ap (λ line. line.count) (get_or-set_same lines j (entered (line_at lines j) x) no_entries in-j) in
-          let r = subst (λ k. (line_at (enter lines j y) k).count < n) e room-i in
+          let r = subst (λ k. (line_at (enter lines j y) k).count < n) e room_i in
           subst (λ k. ((line_at lines k).count < n) × ((line_at (enter lines k x) j).count < n)) (sym e) (omega arith, omega arith)
 
       apart : i ≢ j → ((line_at lines i).count < n) × ((line_at (enter lines i x) j).count < n)

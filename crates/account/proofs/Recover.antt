@@ -14,7 +14,7 @@ use Rattle.account.specs.declared.figures.Figures.{Figures}
 use Rattle.account.specs.declared.opening.Opening.{Opening}
 use Rattle.account.specs.declared.filings.Draft.{Draft}
 use Rattle.account.specs.declared.filings.Filing.{Filing}
-use Rattle.account.specs.Rules.{bill_told, bill_checks, billed_to, bill_rule, recorded, force_checks, in_force as forced-in, force_rule}
+use Rattle.account.specs.Rules.{bill_told, bill_checks, billed_to, bill_rule, recorded, force_checks, in_force as forced_in, force_rule}
 use Rattle.account.specs.Calls.{Call, Answer, rule, accepted, History, outcomes, LeadsTo}
 use Rattle.account.specs.Calls.Call.{cost, bill, close, file, force, withdraw, read}
 use Rattle.account.specs.Journal.{Bill, Filed, Entry, Journal, Month, months, all_months, tax_in_force, e_of, InForce, in_force, last_balance, made, own_filing, added, journal}
@@ -90,7 +90,7 @@ module _ {D : Type 0} (m : D → Meaning) (o : Opening D) where
 
       after_force : (filing : Filing) (design : D) → After j (force filing design) (force_rule f filing design)
       after_force filing design =
-          by_checks (After j (force filing design)) (force_checks f filing) (recorded f.pending).e f (forced-in f design) (λ _. g) λ p.
+          by_checks (After j (force filing design)) (force_checks f filing) (recorded f.pending).e f (forced_in f design) (λ _. g) λ p.
           let some = (own_of o j f a filing p).some in
           (some, own_made filing.number j g some, nil_from_length _ (sym a.month.bills ∙ eqb-true _ _ (not-false _ p.1.1.1.0)), g)
 

@@ -4,9 +4,8 @@ use Rattle.designs.specs.Meanings.{Meaning}
 use Rattle.designs.specs.declared.hours.Hour.{Hour}
 use Rattle.account.specs.declared.answers.Billed.{Billed}
 use Rattle.account.specs.declared.answers.Reading.{Reading}
-use Rattle.account.specs.Calls.{Step}
 use Rattle.account.specs.Calls.Call.{cost, bill, read}
-use Rattle.account.specs.Journal.{Bill, Filed, Journal, e_of}
+use Rattle.account.specs.Journal.{Filed, Journal, e_of}
 use Rattle.account.specs.Journal.Entry.{costed, billed, closed, filed, forced}
 use Rattle.account.specs.Laws.{Recovered, Term, base_charges, bill_count, billed_months, billed_quantity, charges, costs, is_entry, nets, others}
 

@@ -1,5 +1,6 @@
 //! A class account: costs, bills, monthly closings, filings and readings, and the laws of every run of them.
 #![tactic(auto)]
+
 mod a_run;
 mod answers;
 mod billing;

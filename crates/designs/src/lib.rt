@@ -1,5 +1,6 @@
 //! Class rate designs: what a period of hours is charged.
 #![tactic(auto)]
+
 mod component;
 mod flat;
 mod hourly;

@@ -1,5 +1,5 @@
 -- A flat design that has a cost component and nothing else.
-use Rattle.std.proofs.Common.{◌≡◌, ℕ, ◌+◌, ◌*◌, ℤ, pos, ap, ◌∙◌, arith}
+use Rattle.std.proofs.Common.{◌≡◌, ℕ, ◌+◌, ◌*◌, pos, ap, ◌∙◌, arith}
 use Rattle.rounding.proofs.Near.{half_up_is, rate_of_size}
 use Rattle.designs.specs.Flat.{ptc_current}
 

@@ -1,5 +1,6 @@
 //! Works five filed sheets by the engine, line by line, and prints each line beside the sheet's own figure.
 #![tactic(auto)]
+
 mod comparison;
 mod filing;
 mod line_name;

@@ -1,5 +1,5 @@
 -- Figures in range as the machine holds them.
-use Rattle.std.proofs.Common.{◌≡◌, ℕ, ◌*◌, ◌≤◌, ℤ, pos, ◌*ℤ◌, ◌∙◌, arith, to_z-of_z, w64, SFits, to_z, of_z}
+use Rattle.std.proofs.Common.{◌≡◌, ℕ, ◌≤◌, ℤ, ◌*ℤ◌, ◌∙◌, arith, to_z-of_z, w64, SFits, to_z, of_z}
 use borrow.Author.Differences.{ints}
 use mir.Syntax.{w128}
 use Rattle.supply.proofs.Figured.{Between}

@@ -1,13 +1,12 @@
 -- What the tests of a list of lines say, and the bounds of a lawful list's sums.
-use Rattle.std.proofs.Common.{◌≡◌, ℕ, zero, suc, ◌+◌, ◌*◌, ◌<◌, ◌≤◌, Bool, true, false, ◌||◌, eqb, ltb, List, [], ◌∷◌, length, get_or, take, ℤ, pos, negsuc, ◌+ℤ◌, ◌*ℤ◌, nat_abs, ◌≤ℤ◌, fold, sum_by, sym, refl, ap, ◌∙◌, add-one, arith, length-take}
-use lib.Signed.{lt_z}
+use Rattle.std.proofs.Common.{◌≡◌, ℕ, ◌+◌, ◌*◌, ◌<◌, ◌≤◌, false, ◌||◌, eqb, ltb, List, [], ◌∷◌, length, get_or, take, ℤ, pos, negsuc, ◌+ℤ◌, ◌*ℤ◌, ◌≤ℤ◌, fold, arith, length-take}
 use borrow.Author.Differences.{ints}
 use Rattle.std.specs.List.{AllByRecursion as All}
-use Rattle.std.proofs.lemmas.Bool.{or_parts, or_from, or_left, or_right, ltb-false, eqb-false}
+use Rattle.std.proofs.lemmas.Bool.{or_parts, ltb-false, eqb-false}
 use Rattle.std.proofs.lemmas.Nat.{mul-le}
-use Rattle.std.proofs.ByRecursion.{All-get_or, All-take, All-weaker, sum_by_le}
+use Rattle.std.proofs.ByRecursion.{All-take, All-weaker, sum_by_le}
 use Rattle.std.proofs.lemmas.List.Sums.{fold_more, sum_by-cons, sum_by_more}
-use Rattle.supply.specs.Figures.{any, price_out}
+use Rattle.supply.specs.Figures.{price_out}
 use Rattle.supply.proofs.Figured.{none_passes, price_inside}
 use Rattle.supply.specs.Kinds.{Kind, Lawful, line_out, some_out, weighted_sum, weights, wrong_count}
 

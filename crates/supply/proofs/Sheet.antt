@@ -1,7 +1,6 @@
 -- A lawful sheet: its terms, the range of each line, and that the single lines in a row give the whole.
-use Rattle.std.proofs.Common.{◌≡◌, ℕ, ◌+◌, ◌*◌, ◌<◌, ◌≤◌, Bool, false, ◌||◌, List, [], ◌∷◌, length, get_or, take, ℤ, pos, ◌+ℤ◌, Ok, fold, ap, ◌∙◌, arith, length-take}
+use Rattle.std.proofs.Common.{◌≡◌, ℕ, ◌+◌, ◌<◌, ◌≤◌, false, ◌||◌, List, [], ◌∷◌, length, get_or, take, ℤ, pos, ◌+ℤ◌, Ok, ap, arith, length-take}
 use borrow.Author.Differences.{ints, up, down}
-use Rattle.std.specs.List.{AllByRecursion as All}
 use Rattle.std.proofs.ByRecursion.{All-get_or, All-take, All-weaker}
 use Rattle.std.proofs.lemmas.List.Sums.{fold_more}
 use Rattle.std.proofs.lemmas.Bool.{or_from, or_parts}

@@ -1,5 +1,5 @@
 -- Every line of a lawful schedule is in range.
-use Rattle.std.proofs.Common.{◌≡◌, ℕ, suc, ◌+◌, ◌*◌, ◌<◌, ◌≤◌, Bool, false, not, ◌||◌, eqb, List, [], ◌∷◌, length, ℤ, pos, negsuc, ◌+ℤ◌, ◌-ℤ◌, ◌*ℤ◌, nat_abs, ◌≤ℤ◌, fold, ⊎_elim, arith}
+use Rattle.std.proofs.Common.{◌≡◌, ℕ, suc, ◌+◌, ◌*◌, ◌<◌, ◌≤◌, false, not, ◌||◌, eqb, List, [], ◌∷◌, length, ℤ, pos, negsuc, ◌+ℤ◌, ◌-ℤ◌, ◌*ℤ◌, ◌≤ℤ◌, fold, ⊎_elim, arith}
 use borrow.Author.Differences.{ints}
 use Rattle.std.specs.List.{AllByRecursion as All}
 use Rattle.std.proofs.lemmas.Nat.{mul-le}
@@ -14,7 +14,7 @@ use Rattle.supply.specs.declared.terms.Seasons.{Seasons}
 use Rattle.supply.specs.Figures.{factor_out}
 use Rattle.supply.specs.Kinds.{Kind, AmongPrices, Lawful, weighted_sum, weights}
 use Rattle.supply.specs.Lines.{a_block, a_tranche}
-use Rattle.supply.specs.Schedule.{block_average, part_of, rest_of, season_weight, subtotal_of, tranche_average}
+use Rattle.supply.specs.Schedule.{block_average, part_of, rest_of, season_weight, tranche_average}
 use Rattle.supply.specs.Terms.{seasons_out}
 use Rattle.supply.proofs.Figured.{Between, factor_inside}
 use Rattle.supply.proofs.Lists.{InRange, all_in_range, between, one, right_count, sum_between, weights_low}

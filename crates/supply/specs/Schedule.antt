@@ -1,5 +1,5 @@
 -- The lines of a supply schedule in cents per MWh, each rounded and then used as printed, and when they are refused.
-use Rattle.std.specs.Prelude.{◌≡◌, ◌*◌, Bool, ◌||◌, List, [], ◌∷◌, ℤ, pos, ◌+ℤ◌, ◌-ℤ◌, ◌*ℤ◌, Ok, fold, Result}
+use Rattle.std.specs.Prelude.{◌≡◌, ◌*◌, ◌||◌, List, [], ◌∷◌, ℤ, pos, ◌+ℤ◌, ◌-ℤ◌, ◌*ℤ◌, Ok, fold, Result}
 use Rattle.refusals.specs.Checks.{Checks, answer_unless, first}
 use Rattle.rounding.specs.Rounding.{rate_rounded}
 use Rattle.supply.specs.declared.blocks.Block.{Block}
@@ -92,8 +92,8 @@ subtotal_answer fixed variable adders =
 
 -- Line 7, by itself: line 2 + line 6, each in range.
 abbrev pub component_answer : ℤ → ℤ → Result ℤ Refusal
-component_answer tranche-part block-part =
-    answer_unless (first ((printed_out tranche-part || printed_out block-part, LineOutOfRange) ∷ [])) (tranche-part +ℤ block-part)
+component_answer tranche_part block_part =
+    answer_unless (first ((printed_out tranche_part || printed_out block_part, LineOutOfRange) ∷ [])) (tranche_part +ℤ block_part)
 
 -- The checks of a whole sheet: both lists' counts, then the lines of both, then the terms.
 abbrev pub sheet_checks : List Tranche → List Block → Terms → Checks Refusal

@@ -1,5 +1,6 @@
 //! The supply schedule: how a default-service cost component is worked from auction results. Prices are in cents per MWh.
 #![tactic(auto)]
+
 mod blocks;
 mod ranges;
 mod refusal;

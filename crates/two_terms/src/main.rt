@@ -1,6 +1,7 @@
 //! Runs one account through two terms and prints each answer; then for each term how far it is from recovering its filing, and the four
 //! allowances.
 #![tactic(auto)]
+
 mod month;
 mod plan;
 mod refused;

@@ -1,4 +1,4 @@
-use Rattle.std.proofs.Common.{◌≡◌, get_or, ℤ, pos, sym, refl, ap, ◌∙◌, to_z-of_z, w64, SFits, to_z, of_z, rules}
+use Rattle.std.proofs.Common.{get_or, pos, sym, refl, ap, ◌∙◌, to_z-of_z, w64, SFits, rules}
 use Rattle.std.proofs.lemmas.List.{take_all}
 use Rattle.supply.specs.Figures.{any, price_out}
 use Rattle.supply.proofs.Figured.{passes_at, none_more}

@@ -1,4 +1,4 @@
-use Rattle.std.proofs.Common.{◌≡◌, [], ◌∷◌, Ok, sym, ap, ◌∙◌, to_z-of_z, w64, SFits, to_z, of_z}
+use Rattle.std.proofs.Common.{◌≡◌, [], ◌∷◌, Ok, sym, ap, ◌∙◌, to_z-of_z, w64, to_z, of_z}
 use Rattle.supply.specs.declared.refusal.Refusal.TheVariants.{LineCount, LineOutOfRange}
 use Rattle.supply.specs.Kinds.{AmongPrices, some_out, wrong_count}
 use Rattle.supply.specs.Lines.{a_block}

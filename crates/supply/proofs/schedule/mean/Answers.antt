@@ -1,8 +1,6 @@
-use Rattle.std.proofs.Common.{◌≡◌, ap, ◌∙◌, arith, to_z-of_z, SFits, to_z, of_z}
+use Rattle.std.proofs.Common.{◌≡◌, ap, ◌∙◌, arith, to_z, of_z}
 use mir.Syntax.{w128}
 use borrow.Author.Differences.{ints, up, down}
-use Rattle.rounding.specs.Rounding.{rate_rounded}
-use Rattle.supply.specs.Kinds.{weighted_sum, weights}
 use Rattle.supply.specs.Lines.{a_block}
 use Rattle.supply.specs.Schedule.{block_average}
 use Rattle.supply.proofs.Bits.{cast_fits, cast_is}

@@ -1,5 +1,4 @@
-use Rattle.std.proofs.Common.{◌≡◌, sym, ap, ◌∙◌, subst, arith, to_z-of_z, w64, SFits, to_z, of_z}
-use mir.Syntax.{w128}
+use Rattle.std.proofs.Common.{◌≡◌, ap, ◌∙◌, arith}
 use Rattle.rounding.specs.Rounding.{rate_rounded}
 use Rattle.supply.specs.Schedule.{part_of}
 use Rattle.supply.proofs.Bits.{cast_fits, cast_is, product_is, same}

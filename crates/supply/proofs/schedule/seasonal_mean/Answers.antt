@@ -1,8 +1,7 @@
-use Rattle.std.proofs.Common.{◌≡◌, ◌*◌, false, List, ℤ, pos, ◌*ℤ◌, ◌∙◌, arith}
-use Rattle.rounding.specs.Rounding.{rate_rounded}
+use Rattle.std.proofs.Common.{◌≡◌, false, List, ℤ, ◌∙◌, arith}
 use Rattle.supply.specs.declared.tranches.Tranche.{Tranche}
 use Rattle.supply.specs.declared.terms.Seasons.{Seasons}
-use Rattle.supply.specs.Kinds.{Lawful, weighted_sum, weights}
+use Rattle.supply.specs.Kinds.{Lawful, weighted_sum}
 use Rattle.supply.specs.Lines.{a_tranche}
 use Rattle.supply.specs.Schedule.{season_weight, tranche_average}
 use Rattle.supply.specs.Terms.{seasons_out}

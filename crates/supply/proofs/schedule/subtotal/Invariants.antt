@@ -1,4 +1,4 @@
-use Rattle.std.proofs.Common.{◌≡◌, take, ◌+ℤ◌}
+use Rattle.std.proofs.Common.{◌≡◌, take}
 use Rattle.supply.specs.Schedule.{subtotal_of}
 use Rattle.supply.proofs.schedule.subtotal.Given as goal
 

@@ -1,5 +1,4 @@
 use Rattle.std.proofs.Common.{arith, to_z-of_z}
-use borrow.Author.Differences.{ints}
 use Rattle.std.proofs.lemmas.Bool.Decides.{nat_tests}
 use Rattle.supply.specs.Kinds.{line_out}
 use Rattle.supply.proofs.weighted.line_out.Goals as goal

@@ -1,4 +1,4 @@
-use Rattle.std.proofs.Common.{◌≡◌, ◌+◌, take, ℤ, pos, ◌+ℤ◌, ◌*ℤ◌, sym, refl, ap, ◌∙◌, arith, to_z-of_z, w64, SFits, to_z, of_z}
+use Rattle.std.proofs.Common.{◌≡◌, ◌+◌, take, pos, ◌+ℤ◌, ◌*ℤ◌, refl, ap, ◌∙◌, arith, to_z-of_z, w64, to_z, of_z}
 use borrow.Author.Differences.{ints, up, down}
 use mir.Syntax.{w128}
 use Rattle.std.proofs.lemmas.List.{take_all}

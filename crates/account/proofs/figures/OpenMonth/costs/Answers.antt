@@ -1,5 +1,5 @@
-use Rattle.std.proofs.Common.{◌≡◌, ◌<◌, ◌≤◌, length, take, ℤ, pos, ◌+ℤ◌, fold, sym, ap, ◌∙◌, subst, arith, take_all}
-use Rattle.std.proofs.lemmas.Int.{to_z-of_z, ints}
+use Rattle.std.proofs.Common.{◌<◌, length, ℤ, pos, ◌+ℤ◌, fold, ap, ◌∙◌, arith, take_all}
+use Rattle.std.proofs.lemmas.Int.{ints}
 use Rattle.std.proofs.lemmas.List.Sums.{fold_more}
 use Rattle.account.specs.declared.figures.CostLine.{CostLine}
 use Rattle.account.specs.Lawful.{no_entries}

@@ -1,6 +1,5 @@
-use Rattle.std.proofs.Common.{◌≡◌, ◌≤◌, ℤ, pos, ◌+ℤ◌, ◌-ℤ◌, ◌*ℤ◌, nat_abs, ap, ◌∙◌, arith, w64, SFits, rules}
+use Rattle.std.proofs.Common.{◌≡◌, ℤ, pos, ◌*ℤ◌, ap, ◌∙◌, arith, w64, SFits, rules}
 use Rattle.std.proofs.lemmas.Int.{ints, to_z-of_z}
-use Rattle.designs.specs.Flat.{ptc_of}
 use Rattle.two_terms.proofs.Wide.{aim_fits, base_fits, charge_small, gap_fits, gap_is, in64, same_gap, scaled_small}
 use Rattle.two_terms.proofs.term.Sums.difference.Goals as goal
 
