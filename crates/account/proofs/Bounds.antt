@@ -1,7 +1,7 @@
 -- How far bills net of tax stray from base charges and E, summed over months.
 use Rattle.std.proofs.Common.{◌≡◌, ℕ, ◌+◌, ◌-◌, ◌*◌, ◌≤◌, List, [], ◌∷◌, length, ℤ, pos, ◌+ℤ◌, ◌-ℤ◌, ◌*ℤ◌, sym, refl, ap, ◌∙◌, mul-suc, mul-add, arith, lit<}
 use borrow.Author.Differences.{ints}
-use Rattle.std.specs.List.{AllByRecursion as All}
+use Rattle.std.specs.List.{AllByRecursion}
 use Rattle.designs.specs.Meanings.{rate_units_per_cent}
 use Rattle.reconciliation.specs.Reconciliation.{net_of, rate_of, tax_on}
 use Rattle.rounding.specs.Rounding.{gap, money_rounded, rate_rounded}
@@ -85,7 +85,7 @@ module _ (c u tax : ℕ) (e : ℤ) where
     pub law : Near (pos (rate_units_per_cent * (10000 - tax)) *ℤ b.amount) (aim e b.base b.quantity) (10000 * (rate_units_per_cent * c + u * b.quantity))
 
   -- a month's bills before the tax is taken out
-  gross : (bills : List Bill) → All Keeps bills
+  gross : (bills : List Bill) → AllByRecursion Keeps bills
       → Near (pos (rate_units_per_cent * (10000 - tax)) *ℤ total_of (λ b. b.amount) bills) (aim e (base_of bills) (quantity_of bills)) (10000 * (bills_allowance c (length bills) + u * quantity_of bills))
   gross [] h = omega (arith, ints)
   gross (b ∷ bills) h =
@@ -94,13 +94,13 @@ module _ (c u tax : ℕ) (e : ℤ) where
       (near_sum h.0.law (gross bills h.1))
 
   -- a month's bills net of tax
-  net : tax ≤ 2000 → (bills : List Bill) → All Keeps bills
+  net : tax ≤ 2000 → (bills : List Bill) → AllByRecursion Keeps bills
       → Near (pos 10000000 *ℤ net_of (total_of (λ b. b.amount) bills) tax) (aim e (base_of bills) (quantity_of bills)) (10000 * (bills_allowance c (length bills) + months_allowance (one_if_any bills) + u * quantity_of bills))
   net low [] h = near_as (ap (λ x. pos 10000000 *ℤ x) (net_of_none tax)) refl refl (omega (arith, ints))
   net low (b ∷ bills) h = near_as refl refl (omega arith) (near_then (taxed tax low (total_of (λ b. b.amount) (b ∷ bills))) (gross (b ∷ bills) h))
 
   -- the bills of all months net of tax
-  nets : tax ≤ 2000 → (months : List Month) → All (λ (month : Month). All Keeps month.bills) months
+  nets : tax ≤ 2000 → (months : List Month) → AllByRecursion (λ (month : Month). AllByRecursion Keeps month.bills) months
       → Near (pos 10000000 *ℤ total_of (net_in tax) months) (aim e (bases months) (quantities months)) (10000 * (bills_allowance c (counts months) + months_allowance (billed_ones months) + u * quantities months))
   nets low [] h = omega (arith, ints)
   nets low (month ∷ months) h =
@@ -126,7 +126,7 @@ aimed base q filing some =
     go : (base balance x eq ep : ℤ) (g : ℕ) → x ≡ pos 10000 *ℤ eq → 2 * gap (pos 1000 *ℤ balance) ep ≤ p → gap eq ep ≡ g → Near (base +ℤ x) (base +ℤ pos 10000000 *ℤ balance) (10000 * (p + 2 * g))
     go base balance x eq ep g h k l = omega (arith, ints)
 
-pub recovered : (c u tax : ℕ) (filing : Filed) → tax ≤ 2000 → 1 ≤ filing.projected → (months : List Month) → All (λ (month : Month). All (Keeps c u tax (e_of filing)) month.bills) months
+pub recovered : (c u tax : ℕ) (filing : Filed) → tax ≤ 2000 → 1 ≤ filing.projected → (months : List Month) → AllByRecursion (λ (month : Month). AllByRecursion (Keeps c u tax (e_of filing)) month.bills) months
     → 2 * difference (total_of (net_in tax) months) (bases months) filing.balance
     ≤ 10000
     * (bills_allowance c (counts months)

@@ -1,7 +1,7 @@
 -- Recovery, of every run.
 use Rattle.std.proofs.Common.{◌≡◌, ℕ, ◌+◌, ◌≤◌, Bool, true, false, cond, eqb, ltb, List, [], ◌∷◌, ◌++◌, length, ℤ, sym, refl, ap, ◌∙◌, subst, arith, ltb-false, eqb-true}
 use borrow.Author.Tests.{eqb-false, not-false, both_ways}
-use Rattle.std.specs.List.{AllByRecursion as All}
+use Rattle.std.specs.List.{AllByRecursion}
 use Rattle.std.proofs.lemmas.List.{nil_from_length}
 use Rattle.designs.specs.Cutting.{part_of, period_checks, hour_checks}
 use Rattle.designs.specs.Meanings.{Meaning, Sound}
@@ -130,7 +130,7 @@ module _ {D : Type 0} (m : D → Meaning) (o : Opening D) where
 
     module _ (filing : Filed) (design : D) (earlier : Journal D) where
       abbrev Unforced : Journal D → Type 0
-      Unforced term = All (λ (entry : Entry D). is_force entry ≡ false) term
+      Unforced term = AllByRecursion (λ (entry : Entry D). is_force entry ≡ false) term
 
       -- the design and E of a term
       abbrev taken : InForce D
@@ -145,7 +145,7 @@ module _ {D : Type 0} (m : D → Meaning) (o : Opening D) where
       throughout (filed p ∷ term) h = throughout term h.1
       throughout (forced p d ∷ term) h = absurd (both_ways true h.0 refl)
 
-      term_keeps : (term : Journal D) → Unforced term → Good (term ++ (forced filing design ∷ earlier)) → All (λ (month : Month). All (KeepsAt taken) month.bills) (all_months term)
+      term_keeps : (term : Journal D) → Unforced term → Good (term ++ (forced filing design ∷ earlier)) → AllByRecursion (λ (month : Month). AllByRecursion (KeepsAt taken) month.bills) (all_months term)
       term_keeps [] h g = (tt, tt)
       term_keeps (costed amount ∷ term) h g = term_keeps term h.1 g
       term_keeps (billed b ∷ term) h g =

@@ -4,7 +4,7 @@ use borrow.Author.Differences.{ints}
 use lib.Signed.{lt_z}
 use Rattle.std.proofs.ByRecursion.{All-from_get_or, All-get_or}
 use Rattle.std.proofs.lemmas.List.{at_drop_more}
-use Rattle.std.specs.List.{AllByRecursion as All}
+use Rattle.std.specs.List.{AllByRecursion}
 use Rattle.refusals.proofs.Passed.{passed, none_refuses, or_false}
 use Rattle.refusals.specs.Checks.{first, answer_unless}
 use Rattle.designs.specs.declared.hours.Hour.{Hour}
@@ -40,11 +40,11 @@ module _ (part : List Hour) (i : ℕ) (short : i < length part) (so_far : refuse
   stopped x e = sym (ap (λ (o : Option PeriodRefusal). answer_unless {A = Unit} o tt) (here ∙ e))
 
 -- hours in range are those that pass
-pub all_pass : (place : ℕ) (hours : List Hour) → All LawfulHour hours → refused_from place hours ≡ None
+pub all_pass : (place : ℕ) (hours : List Hour) → AllByRecursion LawfulHour hours → refused_from place hours ≡ None
 all_pass place [] all = refl
 all_pass place (h ∷ hours) all = hour_passed place h hours all.0 ∙ all_pass (place + 1) hours all.1
 
-pub pass_all : (place : ℕ) (hours : List Hour) → refused_from place hours ≡ None → All LawfulHour hours
+pub pass_all : (place : ℕ) (hours : List Hour) → refused_from place hours ≡ None → AllByRecursion LawfulHour hours
 pass_all place [] none = tt
 pass_all place (h ∷ hours) none =
     let each = passed (hour_checks place (h ∷ hours)) none in
@@ -56,7 +56,7 @@ pass_all place (h ∷ hours) none =
     ((kwh, low, high), pass_all (place + 1) hours (none_refuses (hour_checks (place + 1) hours) each.1.1))
 
 -- hours in range, at each place
-pub each_lawful : (period : List Hour) → Lawful period → All LawfulHour period
+pub each_lawful : (period : List Hour) → Lawful period → AllByRecursion LawfulHour period
 each_lawful period lawful = All-from_get_or LawfulHour period no_hour lawful.2
 
 module _ (held : List Hour) (start count : ℕ) where

@@ -1,11 +1,11 @@
 -- What a list of checks says where none refuses, and where two lists are joined.
 use Rattle.std.proofs.Common.{◌≡◌, Bool, true, false, cond, ◌&&◌, ◌||◌, [], ◌∷◌, ◌++◌, Some, None, Ok, Err, Option, Result, refl, ap, ◌∙◌}
-use Rattle.std.specs.List.{AllByRecursion as All}
+use Rattle.std.specs.List.{AllByRecursion}
 use Rattle.refusals.specs.Checks.{Checks, first, unless}
 
 -- each test is false
 abbrev pub Passed : {R : Type 0} → Checks R → Type 0
-Passed {R} checks = All (λ (check : Bool × R). check.0 ≡ false) checks
+Passed {R} checks = AllByRecursion (λ (check : Bool × R). check.0 ≡ false) checks
 
 no_refusal : {R : Type 0} {x : R} {o : Option R} → Some x ≡ None → o ≡ None
 no_refusal {R} {x} {o} e = let z : ◌≡◌ {A = Bool} true false = cc in cc

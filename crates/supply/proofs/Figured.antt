@@ -2,7 +2,7 @@
 use Rattle.std.proofs.Common.{◌≡◌, ℕ, zero, suc, ◌+◌, ◌<◌, Bool, true, false, List, [], ◌∷◌, length, get_or, take, ℤ, pos, ◌≤ℤ◌, refl, add-one, arith}
 use lib.Signed.{lt_z}
 use borrow.Author.Differences.{ints}
-use Rattle.std.specs.List.{AllByRecursion as All}
+use Rattle.std.specs.List.{AllByRecursion}
 use Rattle.std.proofs.lemmas.Bool.{or_parts, or_from, or_left, or_right}
 use Rattle.supply.specs.Figures.{any, factor_out, outside, price_out, printed_out, share_out}
 
@@ -54,7 +54,7 @@ none_more {X = X} test xs i d h e k = rw add-one (go xs i h e k)
         let p = or_parts (test x) (any test (take i xs)) e in
         or_from (test x) (any test (take (suc i) xs)) p.0 (go xs i (omega arith) p.1 k)
 
-pub none_passes : {X : Type 0} (test : X → Bool) (xs : List X) → any test xs ≡ false → All (λ x. test x ≡ false) xs
+pub none_passes : {X : Type 0} (test : X → Bool) (xs : List X) → any test xs ≡ false → AllByRecursion (λ x. test x ≡ false) xs
 unfolding any
 none_passes test [] e = tt
 none_passes test (x ∷ xs) e = let p = or_parts (test x) (any test xs) e in (p.0, none_passes test xs p.1)

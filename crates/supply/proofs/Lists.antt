@@ -1,7 +1,7 @@
 -- What the tests of a list of lines say, and the bounds of a lawful list's sums.
 use Rattle.std.proofs.Common.{◌≡◌, ℕ, ◌+◌, ◌*◌, ◌<◌, ◌≤◌, false, ◌||◌, eqb, ltb, List, [], ◌∷◌, length, get_or, take, ℤ, pos, negsuc, ◌+ℤ◌, ◌*ℤ◌, ◌≤ℤ◌, fold, arith, length-take}
 use borrow.Author.Differences.{ints}
-use Rattle.std.specs.List.{AllByRecursion as All}
+use Rattle.std.specs.List.{AllByRecursion}
 use Rattle.std.proofs.lemmas.Bool.{or_parts, ltb-false, eqb-false}
 use Rattle.std.proofs.lemmas.Nat.{mul-le}
 use Rattle.std.proofs.ByRecursion.{All-take, All-weaker, sum_by_le}
@@ -26,7 +26,7 @@ in_range kind line e =
     let n = eqb-false (kind.weight line) 0 p.0 in
     record { some = omega arith; most = ltb-false kind.most (kind.weight line) q.0; low = z.0; high = z.1 }
 
-pub all_in_range : {L : Type 0} (kind : Kind L) (lines : List L) → some_out kind lines ≡ false → All (InRange kind) lines
+pub all_in_range : {L : Type 0} (kind : Kind L) (lines : List L) → some_out kind lines ≡ false → AllByRecursion (InRange kind) lines
 all_in_range kind lines e = All-weaker (λ line. line_out kind line ≡ false) (InRange kind) (λ line. in_range kind line) lines (none_passes (line_out kind) lines e)
 
 -- a price of a known range, weighted
@@ -38,12 +38,12 @@ one w low high (pos q) l h =
 one w low high (negsuc q) l h = absurd (omega (arith, ints))
 
 -- where each price lies from low to high, the weighted sum lies from low × weights to high × weights
-pub between : {L : Type 0} (kind : Kind L) (low high : ℕ) (lines : List L) → All (λ line. (pos low ≤ℤ kind.price line) × (kind.price line ≤ℤ pos high)) lines
+pub between : {L : Type 0} (kind : Kind L) (low high : ℕ) (lines : List L) → AllByRecursion (λ line. (pos low ≤ℤ kind.price line) × (kind.price line ≤ℤ pos high)) lines
     → (pos (low * weights kind lines) ≤ℤ weighted_sum kind lines) × (weighted_sum kind lines ≤ℤ pos (high * weights kind lines))
 unfolding weighted_sum weights
 between {L = L} kind low high lines all = go lines (pos 0) 0 (omega (arith, ints)) (omega (arith, ints)) all
   where
-    go : (lines : List L) (a : ℤ) (n : ℕ) → pos (low * n) ≤ℤ a → a ≤ℤ pos (high * n) → All (λ line. (pos low ≤ℤ kind.price line) × (kind.price line ≤ℤ pos high)) lines
+    go : (lines : List L) (a : ℤ) (n : ℕ) → pos (low * n) ≤ℤ a → a ≤ℤ pos (high * n) → AllByRecursion (λ line. (pos low ≤ℤ kind.price line) × (kind.price line ≤ℤ pos high)) lines
         → (pos (low * fold (λ m line. m + kind.weight line) n lines) ≤ℤ fold (λ sum line. sum +ℤ pos (kind.weight line) *ℤ kind.price line) a lines)
         × (fold (λ sum line. sum +ℤ pos (kind.weight line) *ℤ kind.price line) a lines ≤ℤ pos (high * fold (λ m line. m + kind.weight line) n lines))
     go [] a n l h all = (l, h)
@@ -52,16 +52,16 @@ between {L = L} kind low high lines all = go lines (pos 0) 0 (omega (arith, ints
         let z = one w low high (kind.price line) all.0.0 all.0.1 in
         go lines (a +ℤ pos w *ℤ kind.price line) (n + w) (omega (arith, ints)) (omega (arith, ints)) all.1
 
-pub sum_between : {L : Type 0} (kind : Kind L) (lines : List L) → All (InRange kind) lines → (pos 0 ≤ℤ weighted_sum kind lines) × (weighted_sum kind lines ≤ℤ pos (100000 * weights kind lines))
+pub sum_between : {L : Type 0} (kind : Kind L) (lines : List L) → AllByRecursion (InRange kind) lines → (pos 0 ≤ℤ weighted_sum kind lines) × (weighted_sum kind lines ≤ℤ pos (100000 * weights kind lines))
 sum_between kind lines all =
     let b = between kind 0 100000 lines (All-weaker (InRange kind) (λ line. (pos 0 ≤ℤ kind.price line) × (kind.price line ≤ℤ pos 100000)) (λ line h. (h.low, h.high)) lines all) in
     (omega (arith, ints), b.1)
 
-pub weights_high : {L : Type 0} (kind : Kind L) (lines : List L) → All (InRange kind) lines → weights kind lines ≤ length lines * kind.most
+pub weights_high : {L : Type 0} (kind : Kind L) (lines : List L) → AllByRecursion (InRange kind) lines → weights kind lines ≤ length lines * kind.most
 unfolding weights
 weights_high kind lines all = sum_by_le kind.weight kind.most lines (All-weaker (InRange kind) (λ line. kind.weight line ≤ kind.most) (λ line h. h.most) lines all)
 
-pub weights_low : {L : Type 0} (kind : Kind L) (lines : List L) → 0 < length lines → All (InRange kind) lines → 1 ≤ weights kind lines
+pub weights_low : {L : Type 0} (kind : Kind L) (lines : List L) → 0 < length lines → AllByRecursion (InRange kind) lines → 1 ≤ weights kind lines
 unfolding weights
 weights_low kind [] h all = absurd (omega arith)
 weights_low kind (line ∷ lines) h all = let s = sum_by-cons kind.weight line lines in let k = all.0.some in omega arith
@@ -100,7 +100,7 @@ pub record Small {L : Type 0} (kind : Kind L) (lines : List L) : Type 0 where
   pub high : weighted_sum kind lines ≤ℤ pos 64000000000000
   pub light : weights kind lines ≤ 640000000
 
-small_list : {L : Type 0} (kind : Kind L) (lines : List L) → kind.most ≤ 10000000 → length lines ≤ 64 → All (InRange kind) lines → Small kind lines
+small_list : {L : Type 0} (kind : Kind L) (lines : List L) → kind.most ≤ 10000000 → length lines ≤ 64 → AllByRecursion (InRange kind) lines → Small kind lines
 small_list kind lines most short all =
     let b = sum_between kind lines all in
     let w = weights_high kind lines all in

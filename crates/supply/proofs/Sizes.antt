@@ -1,7 +1,7 @@
 -- Every line of a lawful schedule is in range.
 use Rattle.std.proofs.Common.{◌≡◌, ℕ, suc, ◌+◌, ◌*◌, ◌<◌, ◌≤◌, false, not, ◌||◌, eqb, List, [], ◌∷◌, length, ℤ, pos, negsuc, ◌+ℤ◌, ◌-ℤ◌, ◌*ℤ◌, ◌≤ℤ◌, fold, ⊎_elim, arith}
 use borrow.Author.Differences.{ints}
-use Rattle.std.specs.List.{AllByRecursion as All}
+use Rattle.std.specs.List.{AllByRecursion}
 use Rattle.std.proofs.lemmas.Nat.{mul-le}
 use Rattle.std.proofs.ByRecursion.{All-weaker}
 use Rattle.std.proofs.lemmas.Bool.{cases_lt, or_parts, eqb-true, not-false}
@@ -99,7 +99,7 @@ tranche_average_between tranches seasons lawful e =
     rounded_between (season_weight seasons *ℤ weighted_sum a_tranche tranches) (300 * weights a_tranche tranches) 0 200000 (omega arith)
     (omega (arith, ints, b.0), omega (arith, ints, b.1))
 
-pub summed : (k : ℕ) (a : ℤ) (adders : List ℤ) → Between 0 k a → All (Between 0 100000) adders → Between 0 (k + 100000 * length adders) (fold ◌+ℤ◌ a adders)
+pub summed : (k : ℕ) (a : ℤ) (adders : List ℤ) → Between 0 k a → AllByRecursion (Between 0 100000) adders → Between 0 (k + 100000 * length adders) (fold ◌+ℤ◌ a adders)
 summed k a [] b all = (b.0, omega (arith, ints, b.1))
 summed k a (adder ∷ adders) b all =
     let x = all.0 in
@@ -108,11 +108,11 @@ summed k a (adder ∷ adders) b all =
 
 -- the average of a lawful list lies among its prices
 
-both : {X : Type 0} (P Q : X → Type 0) (xs : List X) → All P xs → All Q xs → All (λ x. P x × Q x) xs
+both : {X : Type 0} (P Q : X → Type 0) (xs : List X) → AllByRecursion P xs → AllByRecursion Q xs → AllByRecursion (λ x. P x × Q x) xs
 both P Q [] p q = tt
 both P Q (x ∷ xs) p q = ((p.0, q.0), both P Q xs p.1 q.1)
 
-none_below : {L : Type 0} (kind : Kind L) (lines : List L) (n : ℕ) → 0 < length lines → All (InRange kind) lines → All (λ line. kind.price line ≤ℤ negsuc n) lines → ⊥
+none_below : {L : Type 0} (kind : Kind L) (lines : List L) (n : ℕ) → 0 < length lines → AllByRecursion (InRange kind) lines → AllByRecursion (λ line. kind.price line ≤ℤ negsuc n) lines → ⊥
 none_below kind [] n h all low = omega arith
 none_below kind (line ∷ lines) n h all low = let x = all.0.low in let y = low.0 in omega (arith, ints)
 
@@ -122,7 +122,7 @@ mean_among {L = L} kind lines lawful = go
     some : 0 < length lines
     some = (right_count lines lawful.0).0
 
-    all : All (InRange kind) lines
+    all : AllByRecursion (InRange kind) lines
     all = all_in_range kind lines lawful.1
 
     go : AmongPrices kind lines (rate_rounded (weighted_sum kind lines) (weights kind lines))

@@ -1,6 +1,6 @@
 -- Lists of lines that have a weight and a price, whatever their kind.
 use Rattle.std.specs.Prelude.{◌≡◌, ℕ, Bool, false, ◌||◌, List, length, ℤ, pos, ◌+ℤ◌, ◌*ℤ◌, ◌≤ℤ◌, fold, sum_by, ◌==◌, nat_lt}
-use Rattle.std.specs.List.{AllByRecursion as All}
+use Rattle.std.specs.List.{AllByRecursion}
 use Rattle.supply.specs.Figures.{any, price_out}
 
 -- A kind of line: a line's weight, its price, and the largest weight that is lawful.
@@ -37,4 +37,4 @@ weights kind lines = sum_by kind.weight lines
 -- Every range that holds the price of each line holds this price too: it lies from the least of their prices to the greatest.
 abbrev pub AmongPrices : {L : Type 0} → Kind L → List L → ℤ → Type 0
 AmongPrices kind lines price =
-    (low high : ℤ) → All (λ line. (low ≤ℤ kind.price line) × (kind.price line ≤ℤ high)) lines → (low ≤ℤ price) × (price ≤ℤ high)
+    (low high : ℤ) → AllByRecursion (λ line. (low ≤ℤ kind.price line) × (kind.price line ≤ℤ high)) lines → (low ≤ℤ price) × (price ≤ℤ high)
