@@ -23,7 +23,7 @@ use Rattle.account.specs.declared.filings.Draft.{Draft}
 use Rattle.account.specs.declared.filings.Filing.{Filing}
 use Rattle.account.specs.declared.refusal.Refusal.{Refusal}
 use Rattle.account.specs.Lawful.{no_entries}
-use Rattle.account.specs.Rules.{opened, open_checks, open_rule, outside, entered, cost_checks, costed as with_cost_in, cost_rule, bill_told, bill_checks, billed_to, bill_rule, costs_of, balance_before, balance_after, closing_of, close_checks, closed as ClosedAt, close_rule, e_filed, filing_at, pending_at, file_checks, filed as filed_at, file_rule, is_pending, recorded, force_checks, in_force as forced_in, force_rule, withdrawn, withdraw_checks, withdraw_rule}
+use Rattle.account.specs.Rules.{opened, open_checks, open_rule, outside, entered, cost_checks, costed as with_cost_in, cost_rule, bill_told, bill_checks, billed_to, bill_rule, costs_of, balance_before, balance_after, closing_of, close_checks, closed as closed_at, close_rule, e_filed, filing_at, pending_at, file_checks, filed as filed_at, file_rule, is_pending, recorded, force_checks, in_force as forced_in, force_rule, withdrawn, withdraw_checks, withdraw_rule}
 use Rattle.account.specs.Calls.{Call, Answer, rule, accepted, History, outcomes, Opens, LeadsTo}
 use Rattle.account.specs.Calls.Call.{cost, bill, close, file, force, withdraw, read}
 use Rattle.account.specs.Journal.{Filed, InForce, Journal, Month, months, total_of, costs_in, billed_in, quantity_in, before, tax_in_force, last_from, last_balance, made, own_filing, e_of, in_force, filing_now, added, journal}
@@ -172,7 +172,7 @@ module _ {D : Type 0} (o : Opening D) (j : Journal D) (f : Figures D) (a : Agree
 
     after_close : After m o j close (close_rule f)
     after_close =
-        by_checks (After m o j close) (close_checks f.terms f.ledger) (closing_of f.terms f.ledger) f (ClosedAt f (balance_after f.terms f.ledger)) (λ _. a) λ _. record {
+        by_checks (After m o j close) (close_checks f.terms f.ledger) (closing_of f.terms f.ledger) f (closed_at f (balance_after f.terms f.ledger)) (λ _. a) λ _. record {
           terms = a.terms;
           rate = a.rate;
           closings = record {
