@@ -1,9 +1,6 @@
 -- Ranges of figures.
-use Rattle.std.specs.Prelude.{ℕ, ◌≤◌, ℤ, pos, ◌≤ℤ◌, unsigned_abs}
-
--- a figure from low to high, both included
-abbrev pub Between : ℕ → ℕ → ℤ → Type 0
-Between low high figure = (pos low ≤ℤ figure) × (figure ≤ℤ pos high)
+use Rattle.std.specs.Prelude.{◌≤◌, ℤ, unsigned_abs}
+use Rattle.ranges.specs.Ranges.{Between}
 
 -- the tax T is 0 to 2,000 ten-thousandths
 abbrev pub TaxRange : ℤ → Type 0
