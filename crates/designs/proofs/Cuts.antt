@@ -1,43 +1,23 @@
 -- What the checks of a period say of it, one hour at a time and as a whole.
-use Rattle.std.proofs.Common.{◌≡◌, ℕ, ◌+◌, ◌<◌, ◌≤◌, true, ◌⊎◌, List, [], ◌∷◌, length, drop, pos, neg_ℤ, ◌≤ℤ◌, Some, None, Ok, Err, Option, sym, refl, ap, ◌∙◌, arith, length-drop, length-take}
+use Rattle.std.proofs.Common.{◌≡◌, ℕ, ◌+◌, ◌≤◌, List, [], ◌∷◌, length, drop, pos, neg_ℤ, ◌≤ℤ◌, Some, None, Ok, Err, Option, refl, ◌∙◌, arith, length-drop, length-take}
 use borrow.Author.Differences.{ints}
 use lib.Signed.{lt_z}
 use Rattle.std.proofs.ByRecursion.{All-from_get_or, All-get_or}
-use Rattle.std.proofs.lemmas.List.{at_drop_more}
 use Rattle.std.specs.List.{AllByRecursion}
 use Rattle.refusals.proofs.Passed.{passed, none_refuses, or_false}
 use Rattle.refusals.specs.Checks.{first, answer_unless}
 use Rattle.designs.specs.declared.hours.Hour.{Hour}
 use Rattle.designs.specs.declared.refusal.PeriodRefusal.{PeriodRefusal}
-use Rattle.designs.specs.declared.refusal.Refusal.TheVariants.{HourCount, EnergyTooLarge, PriceOutOfRange}
 use Rattle.designs.specs.Cutting.{hour_checks, period_checks, part_of, Unlawful}
-use Rattle.designs.specs.Periods.{Lawful, LawfulHour, hour_at, no_hour}
-use Rattle.designs.specs.Refusals.{of_hour, of_period}
+use Rattle.designs.specs.Periods.{Lawful, LawfulHour, no_hour}
 
 -- what the checks of the hours from a place on refuse
 abbrev pub refused_from : ℕ → List Hour → Option PeriodRefusal
 refused_from place hours = first (hour_checks place hours)
 
-module _ (place : ℕ) (h : Hour) (rest : List Hour) where
-  pub energy_refused : 100000 < h.kwh → refused_from place (h ∷ rest) ≡ Some (of_hour EnergyTooLarge place)
-  energy_refused high = grind (arith, ints)
-
-  pub low_refused : h.kwh ≤ 100000 → lt_z h.price.0 (neg_ℤ (pos 100000)) ≡ true → refused_from place (h ∷ rest) ≡ Some (of_hour PriceOutOfRange place)
-  low_refused few low = grind (arith, ints)
-
-  pub high_refused : h.kwh ≤ 100000 → lt_z (pos 400000) h.price.0 ≡ true → refused_from place (h ∷ rest) ≡ Some (of_hour PriceOutOfRange place)
-  high_refused few high = grind (arith, ints)
-
-  pub hour_passed : LawfulHour h → refused_from place (h ∷ rest) ≡ refused_from (place + 1) rest
-  hour_passed lawful = grind (arith, ints)
-
--- a loop over the hours has come to a place: what is refused there is what is refused at all
-module _ (part : List Hour) (i : ℕ) (short : i < length part) (so_far : refused_from 0 part ≡ refused_from i (drop i part)) where
-  pub here : refused_from 0 part ≡ refused_from i (hour_at part i ∷ drop (i + 1) part)
-  here = so_far ∙ at_drop_more (refused_from i) part i no_hour short
-
-  pub stopped : (x : PeriodRefusal) → refused_from i (hour_at part i ∷ drop (i + 1) part) ≡ Some x → Err x ≡ answer_unless {A = Unit} (refused_from 0 part) tt
-  stopped x e = sym (ap (λ (o : Option PeriodRefusal). answer_unless {A = Unit} o tt) (here ∙ e))
+-- an hour in range passes
+pub hour_passed : (place : ℕ) (h : Hour) (rest : List Hour) → LawfulHour h → refused_from place (h ∷ rest) ≡ refused_from (place + 1) rest
+hour_passed place h rest lawful = grind (arith, ints)
 
 -- hours in range are those that pass
 pub all_pass : (place : ℕ) (hours : List Hour) → AllByRecursion LawfulHour hours → refused_from place hours ≡ None
@@ -62,10 +42,6 @@ each_lawful period lawful = All-from_get_or LawfulHour period no_hour lawful.2
 module _ (held : List Hour) (start count : ℕ) where
   part_length : start + count ≤ length held → length (part_of held start count) ≡ count
   part_length within = omega (arith, length-take count (drop start held), length-drop start held)
-
-  pub count_refused : (count ≡ 0) ⊎ ((count ≡ 0 → ⊥) × (840 < count)) → (first (period_checks held start count) ≡ Some (of_period HourCount)) × Unlawful held start count
-  count_refused wrong =
-      (grind arith, λ within lawful. let l = part_length within in let a = lawful.0 in let b = lawful.1 in grind arith)
 
   module _ (some : count ≡ 0 → ⊥) (few : count ≤ 840) (within : start + count ≤ length held) where
     -- where the number of hours is right and all are held, the hours decide

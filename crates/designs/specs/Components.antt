@@ -1,6 +1,6 @@
 -- The ranges of a design's figures.
 use Rattle.std.specs.Prelude.{ℤ}
-use Rattle.reconciliation.specs.Figures.{Between}
+use Rattle.ranges.specs.Ranges.{Between}
 
 -- A rate component is 0 to 100,000 rate units.
 abbrev pub ComponentRange : ℤ → Type 0

@@ -3,16 +3,15 @@ use Rattle.std.specs.Prelude.{ℕ, ◌+◌, ◌≤◌, ◌||◌, List, [], ◌�
 use Rattle.refusals.specs.Checks.{Checks, first, answer_unless}
 use Rattle.designs.specs.declared.hours.Hour.{Hour}
 use Rattle.designs.specs.declared.refusal.PeriodRefusal.{PeriodRefusal}
-use Rattle.designs.specs.declared.refusal.Refusal.TheVariants.{HourCount, PastLastHour, EnergyTooLarge, PriceOutOfRange}
+use Rattle.designs.specs.declared.refusal.PeriodRefusal.TheVariants.{HourCount, PastLastHour, EnergyTooLarge, PriceOutOfRange}
 use Rattle.designs.specs.Periods.{Lawful, most_kwh}
-use Rattle.designs.specs.Refusals.{of_period, of_hour}
 
 -- Hour by hour, the first at this place: the energy, then the price.
 abbrev pub hour_checks : ℕ → List Hour → Checks PeriodRefusal
 hour_checks place [] = []
 hour_checks place (h ∷ hs) =
-    (nat_lt most_kwh h.kwh, of_hour EnergyTooLarge place)
-    ∷ (int_lt h.price.0 (neg_ℤ (pos 100000)) || int_lt (pos 400000) h.price.0, of_hour PriceOutOfRange place)
+    (nat_lt most_kwh h.kwh, EnergyTooLarge place)
+    ∷ (int_lt h.price.0 (neg_ℤ (pos 100000)) || int_lt (pos 400000) h.price.0, PriceOutOfRange place)
     ∷ hour_checks (place + 1) hs
 
 -- The hours from start on, count of them.
@@ -22,8 +21,8 @@ part_of held start count = take count (drop start held)
 -- The number of hours, then whether the period passes the last hour held, then hour by hour.
 abbrev pub period_checks : List Hour → ℕ → ℕ → Checks PeriodRefusal
 period_checks held start count =
-    (count == 0 || nat_lt 840 count, of_period HourCount)
-    ∷ (nat_lt (length held) (start + count), of_period PastLastHour)
+    (count == 0 || nat_lt 840 count, HourCount)
+    ∷ (nat_lt (length held) (start + count), PastLastHour)
     ∷ hour_checks 0 (part_of held start count)
 
 -- A cut hands on the part itself, unless a check refuses.
