@@ -1,9 +1,7 @@
 -- A lawful sheet: its terms, the range of each line, and that the single lines in a row give the whole.
-use Rattle.std.proofs.Common.{◌≡◌, ℕ, ◌+◌, ◌<◌, ◌≤◌, false, ◌||◌, List, [], ◌∷◌, length, get_or, take, ℤ, pos, ◌+ℤ◌, Ok, ap, arith, length-take}
-use borrow.Author.Differences.{ints, up, down}
-use Rattle.std.proofs.ByRecursion.{All-get_or, All-take, All-weaker}
-use Rattle.std.proofs.lemmas.List.Sums.{fold_more}
-use Rattle.std.proofs.lemmas.Bool.{or_from, or_parts}
+use Rattle.std.proofs.Common.{◌≡◌, ℕ, ◌+◌, ◌≤◌, Bool, true, false, ◌||◌, List, [], ◌∷◌, ◌++◌, length, ℤ, ◌+ℤ◌, Ok, Result, refl, ap, arith}
+use borrow.Author.Differences.{ints}
+use Rattle.std.proofs.lemmas.Bool.{or_from}
 use Rattle.refusals.specs.Checks.{Checks, answer_unless, first}
 use Rattle.refusals.proofs.Passed.{Passed, none_refuses}
 use Rattle.supply.specs.declared.blocks.Block.{Block}
@@ -11,12 +9,14 @@ use Rattle.supply.specs.declared.tranches.Tranche.{Tranche}
 use Rattle.supply.specs.declared.refusal.Refusal.{Refusal}
 use Rattle.supply.specs.declared.refusal.Refusal.TheVariants.{LineCount, LineOutOfRange, TermOutOfRange}
 use Rattle.supply.specs.declared.terms.Terms.{Terms}
-use Rattle.supply.specs.Figures.{any, price_out, printed_out, share_out}
-use Rattle.supply.specs.Kinds.{Lawful, some_out, wrong_count}
+use Rattle.supply.specs.Figures.{price_out, printed_out, share_out}
+use Rattle.std.specs.List.{list_any}
+use Rattle.supply.specs.Kinds.{Kind, Lawful, lines_checks, some_out, wrong_count}
 use Rattle.supply.specs.Lines.{a_block, a_tranche}
 use Rattle.supply.specs.Schedule.{LineByLine, block_average, lines_of, part_of, rest_of, share_checks, subtotal_of, tranche_average}
 use Rattle.supply.specs.Terms.{seasons_out, terms_out}
-use Rattle.supply.proofs.Figured.{Between, none_passes, price_inside, printed, share_inside}
+use Rattle.supply.proofs.Bits.{bits, same}
+use Rattle.supply.proofs.Figured.{Between, price_inside, prices_inside, printed, share_inside}
 use Rattle.supply.proofs.Sizes.{block_average_between, part_between, rest_between, summed, tranche_average_between}
 
 -- the parts of what the terms' test says
@@ -25,21 +25,11 @@ pub record InTerms (terms : Terms) : Type 0 where
   pub fixed : share_out terms.fixed_share ≡ false
   pub seasons : seasons_out terms.seasons ≡ false
   pub variable : price_out terms.variable_price ≡ false
-  pub adders : any price_out terms.adders ≡ false
+  pub adders : list_any price_out terms.adders ≡ false
 
 pub in_terms : (terms : Terms) → terms_out terms ≡ false → InTerms terms
 unfolding terms_out
-in_terms terms e =
-    let a = share_out terms.tranche_share in
-    let b = share_out terms.fixed_share in
-    let c = seasons_out terms.seasons in
-    let d = price_out terms.variable_price in
-    let f = any price_out terms.adders in
-    let p = or_parts a (b || (c || (d || f))) e in
-    let q = or_parts b (c || (d || f)) p.1 in
-    let r = or_parts c (d || f) q.1 in
-    let s = or_parts d f r.1 in
-    record { tranche = p.0; fixed = q.0; seasons = r.0; variable = s.0; adders = s.1 }
+in_terms terms e = record { tranche = grind arith; fixed = grind arith; seasons = grind arith; variable = grind arith; adders = grind arith }
 
 pub wider : (m n : ℕ) (z : ℤ) → m ≤ n → Between 0 m z → Between 0 n z
 wider m n z h b = (b.0, omega (arith, ints, b.1))
@@ -47,29 +37,25 @@ wider m n z h b = (b.0, omega (arith, ints, b.1))
 pub sum_between : (m n : ℕ) (a b : ℤ) → Between 0 m a → Between 0 n b → Between 0 (m + n) (a +ℤ b)
 sum_between m n a b x y = (omega (arith, ints), omega (arith, ints))
 
-pub subtotal_between : (k : ℕ) (fixed variable : ℤ) (adders : List ℤ) → Between 0 k fixed → Between 0 k variable → any price_out adders ≡ false → length adders ≤ 3
+pub subtotal_between : (k : ℕ) (fixed variable : ℤ) (adders : List ℤ) → Between 0 k fixed → Between 0 k variable → list_any price_out adders ≡ false → length adders ≤ 3
     → Between 0 (k + k + 300000) (subtotal_of fixed variable adders)
 unfolding subtotal_of
 subtotal_between k fixed variable adders f v e short =
-    let all = All-weaker (λ z. price_out z ≡ false) (Between 0 100000) (λ z. price_inside z) adders (none_passes price_out adders e) in
-    let b = summed (k + k) (fixed +ℤ variable) adders (sum_between k k fixed variable f v) all in
+    let b = summed (k + k) (fixed +ℤ variable) adders (sum_between k k fixed variable f v) (prices_inside adders e) in
     (b.0, omega (arith, ints, b.1))
 
 -- the answer where no check refuses
 pub answered : {A : Type 0} (checks : Checks Refusal) (a : A) → Passed checks → answer_unless (first checks) a ≡ Ok a
 answered checks a h = ap (λ o. answer_unless o a) (none_refuses checks h)
 
--- one adder more
-pub running : (fixed variable : ℤ) (adders : List ℤ) (i : ℕ) (total : ℤ) → Between 0 1000000 fixed → Between 0 1000000 variable → any price_out adders ≡ false → length adders ≡ 3 → i < 3
-    → total ≡ subtotal_of fixed variable (take i adders)
-    → Between 0 2300000 total × Between 0 100000 (get_or adders i (pos 0)) × (total +ℤ get_or adders i (pos 0) ≡ subtotal_of fixed variable (take (i + 1) adders))
-unfolding subtotal_of
-running fixed variable adders i total f v e three less is =
-    let all = All-weaker (λ z. price_out z ≡ false) (Between 0 100000) (λ z. price_inside z) adders (none_passes price_out adders e) in
-    let short : length (take i adders) ≤ 3 = simp length-take (omega arith) in
-    let b = summed 2000000 (fixed +ℤ variable) (take i adders) (sum_between 1000000 1000000 fixed variable f v) (All-take (Between 0 100000) i adders all) in
-    let more = fold_more ◌+ℤ◌ (fixed +ℤ variable) adders i (pos 0) (omega arith) in
-    ((omega (arith, ints, b.0, ap up is, ap down is), omega (arith, ints, b.1, ap up is, ap down is)), All-get_or (Between 0 100000) adders i (pos 0) (omega arith) all, cc)
+-- a list that no check refuses is lawful
+pub lawful_list : {L : Type 0} (kind : Kind L) (lines : List L) → ◌≡◌ {A = Result (Unit {0}) Refusal} (Ok tt) (answer_unless (first (lines_checks kind lines)) tt) → Lawful kind lines
+lawful_list kind lines e = go (wrong_count lines) (some_out kind lines) e
+  where
+    go : (count line : Bool) → ◌≡◌ {A = Result (Unit {0}) Refusal} (Ok tt) (answer_unless (first ((count, LineCount) ∷ (line, LineOutOfRange) ∷ [])) tt) → (count ≡ false) × (line ≡ false)
+    go true line e = (cc, cc)
+    go false true e = (cc, cc)
+    go false false e = (refl, refl)
 
 -- a lawful sheet
 pub record LawfulSheet (ts : List Tranche) (bs : List Block) (x : Terms) : Type 0 where
@@ -134,14 +120,50 @@ module _ (tranches : List Tranche) (blocks : List Block) (terms : Terms) where
       let p = ok.terms.fixed in
       let v = fine 100000 terms.variable_price (omega arith) (price_inside terms.variable_price ok.terms.variable) in
       record {
-        line_1 = answered ((wrong_count tranches, LineCount) ∷ (some_out a_tranche tranches, LineOutOfRange) ∷ (seasons_out terms.seasons, TermOutOfRange) ∷ []) line_1 (ok.tranches.0, (ok.tranches.1, (ok.terms.seasons, tt)));
+        line_1 = answered (lines_checks a_tranche tranches ++ (seasons_out terms.seasons, TermOutOfRange) ∷ []) line_1 (ok.tranches.0, (ok.tranches.1, (ok.terms.seasons, tt)));
         line_2 = answered (share_checks line_1 terms.tranche_share) line_2 (fine 200000 line_1 (omega arith) (low_1 ok), (s, tt));
-        line_3 = answered ((wrong_count blocks, LineCount) ∷ (some_out a_block blocks, LineOutOfRange) ∷ []) line_3 (ok.blocks.0, (ok.blocks.1, tt));
+        line_3 = answered (lines_checks a_block blocks) line_3 (ok.blocks.0, (ok.blocks.1, tt));
         fixed = answered (share_checks line_3 terms.fixed_share) fixed (fine 100000 line_3 (omega arith) (low_3 ok), (p, tt));
         variable = answered (share_checks terms.variable_price terms.fixed_share) variable (v, (p, tt));
-        line_5 = answered ((printed_out fixed || printed_out variable, LineOutOfRange) ∷ (any price_out terms.adders, TermOutOfRange) ∷ []) line_5
+        line_5 = answered ((printed_out fixed || printed_out variable, LineOutOfRange) ∷ (list_any price_out terms.adders, TermOutOfRange) ∷ []) line_5
             (or_from (printed_out fixed) (printed_out variable) (fine 100000 fixed (omega arith) (low_fixed ok)) (fine 100000 variable (omega arith) (low_variable ok)), (ok.terms.adders, tt));
         line_6 = answered (share_checks line_5 terms.tranche_share) line_6 (fine 500000 line_5 (omega arith) (low_5 ok), (s, tt));
         line_7 = answered ((printed_out line_2 || printed_out line_6, LineOutOfRange) ∷ []) (line_2 +ℤ line_6)
             (or_from (printed_out line_2) (printed_out line_6) (fine 200000 line_2 (omega arith) (low_2 ok)) (fine 500000 line_6 (omega arith) (low_6 ok)), tt);
+      }
+
+  -- the calls in a row answer the sheet's lines, each of which the code hands on as it is
+  pub record Row : Type 0 where
+    pub lines : LineByLine tranches blocks terms (lines_of tranches blocks terms)
+    pub tranche_share : bits terms.tranche_share ≡ terms.tranche_share
+    pub fixed_share : bits terms.fixed_share ≡ terms.fixed_share
+    pub variable_price : bits terms.variable_price ≡ terms.variable_price
+    pub same_1 : bits (lines_of tranches blocks terms).tranche_average ≡ (lines_of tranches blocks terms).tranche_average
+    pub same_2 : bits (lines_of tranches blocks terms).tranche_part ≡ (lines_of tranches blocks terms).tranche_part
+    pub same_3 : bits (lines_of tranches blocks terms).block_average ≡ (lines_of tranches blocks terms).block_average
+    pub same_fixed : bits (lines_of tranches blocks terms).fixed_part ≡ (lines_of tranches blocks terms).fixed_part
+    pub same_variable : bits (lines_of tranches blocks terms).variable_part ≡ (lines_of tranches blocks terms).variable_part
+    pub same_5 : bits (lines_of tranches blocks terms).block_subtotal ≡ (lines_of tranches blocks terms).block_subtotal
+    pub same_6 : bits (lines_of tranches blocks terms).block_part ≡ (lines_of tranches blocks terms).block_part
+    pub same_7 : bits (lines_of tranches blocks terms).cost_component ≡ (lines_of tranches blocks terms).cost_component
+
+  handed : (k : ℕ) (z : ℤ) → k ≤ 4000000 → Between 0 k z → bits z ≡ z
+  handed k z h x = same z (wider k 4000000 z h x)
+
+  pub in_a_row : LawfulSheet tranches blocks terms → Row
+  unfolding lines_of
+  in_a_row ok =
+      record {
+        lines = line_by_line ok;
+        tranche_share = handed 10000 terms.tranche_share (omega arith) (share_inside terms.tranche_share ok.terms.tranche);
+        fixed_share = handed 10000 terms.fixed_share (omega arith) (share_inside terms.fixed_share ok.terms.fixed);
+        variable_price = handed 100000 terms.variable_price (omega arith) (price_inside terms.variable_price ok.terms.variable);
+        same_1 = handed 200000 line_1 (omega arith) (low_1 ok);
+        same_2 = handed 200000 line_2 (omega arith) (low_2 ok);
+        same_3 = handed 100000 line_3 (omega arith) (low_3 ok);
+        same_fixed = handed 100000 fixed (omega arith) (low_fixed ok);
+        same_variable = handed 100000 variable (omega arith) (low_variable ok);
+        same_5 = handed 500000 line_5 (omega arith) (low_5 ok);
+        same_6 = handed 500000 line_6 (omega arith) (low_6 ok);
+        same_7 = handed 700000 (line_2 +ℤ line_6) (omega arith) (sum_between 200000 500000 line_2 line_6 (low_2 ok) (low_6 ok));
       }

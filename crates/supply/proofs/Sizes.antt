@@ -1,23 +1,23 @@
 -- Every line of a lawful schedule is in range.
-use Rattle.std.proofs.Common.{◌≡◌, ℕ, suc, ◌+◌, ◌*◌, ◌<◌, ◌≤◌, false, not, ◌||◌, eqb, List, [], ◌∷◌, length, ℤ, pos, negsuc, ◌+ℤ◌, ◌-ℤ◌, ◌*ℤ◌, ◌≤ℤ◌, fold, ⊎_elim, arith}
+use Rattle.std.proofs.Common.{◌≡◌, ℕ, suc, ◌+◌, ◌*◌, ◌<◌, ◌≤◌, false, List, [], ◌∷◌, length, ℤ, pos, negsuc, ◌+ℤ◌, ◌-ℤ◌, ◌*ℤ◌, fold, ⊎_elim, arith}
 use borrow.Author.Differences.{ints}
-use Rattle.std.specs.List.{AllByRecursion}
+use Rattle.std.specs.List.{All}
 use Rattle.std.proofs.lemmas.Nat.{mul-le}
-use Rattle.std.proofs.ByRecursion.{All-weaker}
-use Rattle.std.proofs.lemmas.Bool.{cases_lt, or_parts, eqb-true, not-false}
+use Rattle.std.proofs.lemmas.List.Elements.{All-head, All-tail}
+use Rattle.std.proofs.lemmas.Bool.{cases_lt}
+use Rattle.std.proofs.lemmas.Bool.Decides.{nat_tests}
 use Rattle.rounding.specs.Rounding.{half_up, rate_rounded}
 use Rattle.rounding.proofs.Gaps.{gap_out}
 use Rattle.rounding.proofs.Near.{rate_bound, rate_near, rate_of_size}
 use Rattle.supply.specs.declared.blocks.Block.{Block}
 use Rattle.supply.specs.declared.tranches.Tranche.{Tranche}
 use Rattle.supply.specs.declared.terms.Seasons.{Seasons}
-use Rattle.supply.specs.Figures.{factor_out}
 use Rattle.supply.specs.Kinds.{Kind, AmongPrices, Lawful, weighted_sum, weights}
 use Rattle.supply.specs.Lines.{a_block, a_tranche}
 use Rattle.supply.specs.Schedule.{block_average, part_of, rest_of, season_weight, tranche_average}
 use Rattle.supply.specs.Terms.{seasons_out}
 use Rattle.supply.proofs.Figured.{Between, factor_inside}
-use Rattle.supply.proofs.Lists.{InRange, all_in_range, between, one, right_count, sum_between, weights_low}
+use Rattle.supply.proofs.Lists.{InRange, Priced, all_in_range, between, one, right_count, sum_between, weights_low}
 
 -- a number from low × d to high × d, over d and rounded, lies from low to high
 pub rounded_between : (z : ℤ) (d low high : ℕ) → 0 < d → Between (low * d) (high * d) z → Between low high (rate_rounded z d)
@@ -66,14 +66,7 @@ pub record InSeason (seasons : Seasons) : Type 0 where
 pub in_season : (seasons : Seasons) → seasons_out seasons ≡ false → InSeason seasons
 unfolding seasons_out
 in_season seasons e =
-    let three = eqb (seasons.summer.months + seasons.winter.months) 3 in
-    let p = or_parts (factor_out seasons.summer.factor) (factor_out seasons.winter.factor || not three) e in
-    let q = or_parts (factor_out seasons.winter.factor) (not three) p.1 in
-    record {
-      summer = factor_inside seasons.summer.factor p.0;
-      winter = factor_inside seasons.winter.factor q.0;
-      months = eqb-true (seasons.summer.months + seasons.winter.months) 3 (not-false three q.1);
-    }
+    record { summer = factor_inside seasons.summer.factor (grind arith); winter = factor_inside seasons.winter.factor (grind arith); months = grind (arith, nat_tests) }
 
 pub season_weight_between : (seasons : Seasons) → InSeason seasons → Between 0 600 (season_weight seasons)
 unfolding season_weight
@@ -99,22 +92,21 @@ tranche_average_between tranches seasons lawful e =
     rounded_between (season_weight seasons *ℤ weighted_sum a_tranche tranches) (300 * weights a_tranche tranches) 0 200000 (omega arith)
     (omega (arith, ints, b.0), omega (arith, ints, b.1))
 
-pub summed : (k : ℕ) (a : ℤ) (adders : List ℤ) → Between 0 k a → AllByRecursion (Between 0 100000) adders → Between 0 (k + 100000 * length adders) (fold ◌+ℤ◌ a adders)
+pub summed : (k : ℕ) (a : ℤ) (adders : List ℤ) → Between 0 k a → All (Between 0 100000) adders → Between 0 (k + 100000 * length adders) (fold ◌+ℤ◌ a adders)
 summed k a [] b all = (b.0, omega (arith, ints, b.1))
 summed k a (adder ∷ adders) b all =
-    let x = all.0 in
-    let rest = summed (k + 100000) (a +ℤ adder) adders (omega (arith, ints), omega (arith, ints)) all.1 in
+    let x = All-head (Between 0 100000) adder adders all in
+    let rest = summed (k + 100000) (a +ℤ adder) adders (omega (arith, ints), omega (arith, ints)) (All-tail (Between 0 100000) adder adders all) in
     (rest.0, omega (arith, ints, rest.1))
 
 -- the average of a lawful list lies among its prices
 
-both : {X : Type 0} (P Q : X → Type 0) (xs : List X) → AllByRecursion P xs → AllByRecursion Q xs → AllByRecursion (λ x. P x × Q x) xs
-both P Q [] p q = tt
-both P Q (x ∷ xs) p q = ((p.0, q.0), both P Q xs p.1 q.1)
-
-none_below : {L : Type 0} (kind : Kind L) (lines : List L) (n : ℕ) → 0 < length lines → AllByRecursion (InRange kind) lines → AllByRecursion (λ line. kind.price line ≤ℤ negsuc n) lines → ⊥
-none_below kind [] n h all low = omega arith
-none_below kind (line ∷ lines) n h all low = let x = all.0.low in let y = low.0 in omega (arith, ints)
+none_below : {L : Type 0} (kind : Kind L) (lines : List L) (low : ℤ) (n : ℕ) → 0 < length lines → All (InRange kind) lines → All (Priced kind low (negsuc n)) lines → ⊥
+none_below kind [] low n h all given = omega arith
+none_below kind (line ∷ lines) low n h all given =
+    let x = (All-head (InRange kind) line lines all).low in
+    let y = All-head (Priced kind low (negsuc n)) line lines given in
+    omega (arith, ints, x, y.1)
 
 pub mean_among : {L : Type 0} (kind : Kind L) (lines : List L) → Lawful kind lines → AmongPrices kind lines (rate_rounded (weighted_sum kind lines) (weights kind lines))
 mean_among {L = L} kind lines lawful = go
@@ -122,17 +114,16 @@ mean_among {L = L} kind lines lawful = go
     some : 0 < length lines
     some = (right_count lines lawful.0).0
 
-    all : AllByRecursion (InRange kind) lines
+    all : All (InRange kind) lines
     all = all_in_range kind lines lawful.1
 
-    go : AmongPrices kind lines (rate_rounded (weighted_sum kind lines) (weights kind lines))
-    go low (negsuc high) given =
-        absurd (none_below kind lines high some all (All-weaker (λ line. (low ≤ℤ kind.price line) × (kind.price line ≤ℤ negsuc high)) (λ line. kind.price line ≤ℤ negsuc high) (λ line h. h.1) lines given))
-    go (pos low) (pos high) given =
+    mean_between : (low high : ℕ) → All (Priced kind (pos low) (pos high)) lines → Between low high (rate_rounded (weighted_sum kind lines) (weights kind lines))
+    mean_between low high given =
         rounded_between (weighted_sum kind lines) (weights kind lines) low high (weights_low kind lines some all) (between kind low high lines given)
+
+    go : AmongPrices kind lines (rate_rounded (weighted_sum kind lines) (weights kind lines))
+    go low (negsuc high) given = absurd (none_below kind lines low high some all given)
+    go (pos low) (pos high) given = mean_between low high given
     go (negsuc low) (pos high) given =
-        let prices = both (λ line. pos 0 ≤ℤ kind.price line) (λ line. kind.price line ≤ℤ pos high) lines
-        (All-weaker (InRange kind) (λ line. pos 0 ≤ℤ kind.price line) (λ line h. h.low) lines all)
-        (All-weaker (λ line. (negsuc low ≤ℤ kind.price line) × (kind.price line ≤ℤ pos high)) (λ line. kind.price line ≤ℤ pos high) (λ line h. h.1) lines given) in
-        let b = rounded_between (weighted_sum kind lines) (weights kind lines) 0 high (weights_low kind lines some all) (between kind 0 high lines prices) in
+        let b = mean_between 0 high (λ k d lt. ((all k d lt).low, (given k d lt).1)) in
         (omega (arith, ints, b.0), b.1)

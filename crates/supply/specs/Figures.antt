@@ -1,5 +1,5 @@
 -- Ranges of figures.
-use Rattle.std.specs.Prelude.{Bool, false, ◌||◌, List, [], ◌∷◌, ℤ, pos, int_lt}
+use Rattle.std.specs.Prelude.{Bool, ◌||◌, ℤ, pos, int_lt}
 
 -- A figure is below low or above high.
 unfoldable pub outside : ℤ → ℤ → ℤ → Bool
@@ -20,8 +20,3 @@ share_out share = outside (pos 0) (pos 10000) share
 -- A season's factor is outside 50 to 200 hundredths.
 abbrev pub factor_out : ℤ → Bool
 factor_out factor = outside (pos 50) (pos 200) factor
-
--- Some element of a list passes a test.
-unfoldable pub any : {X : Type 0} → (X → Bool) → List X → Bool
-any test [] = false
-any test (x ∷ xs) = test x || any test xs

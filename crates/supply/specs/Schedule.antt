@@ -1,5 +1,5 @@
 -- The lines of a supply schedule in cents per MWh, each rounded and then used as printed, and when they are refused.
-use Rattle.std.specs.Prelude.{◌≡◌, ◌*◌, ◌||◌, List, [], ◌∷◌, ℤ, pos, ◌+ℤ◌, ◌-ℤ◌, ◌*ℤ◌, Ok, fold, Result}
+use Rattle.std.specs.Prelude.{◌≡◌, ◌*◌, ◌||◌, List, [], ◌∷◌, ◌++◌, ℤ, pos, ◌+ℤ◌, ◌-ℤ◌, ◌*ℤ◌, Ok, fold, Result}
 use Rattle.refusals.specs.Checks.{Checks, answer_unless, first}
 use Rattle.rounding.specs.Rounding.{rate_rounded}
 use Rattle.supply.specs.declared.blocks.Block.{Block}
@@ -9,8 +9,9 @@ use Rattle.supply.specs.declared.refusal.Refusal.TheVariants.{LineCount, LineOut
 use Rattle.supply.specs.declared.schedule.SupplyLines.{SupplyLines}
 use Rattle.supply.specs.declared.terms.Seasons.{Seasons}
 use Rattle.supply.specs.declared.terms.Terms.{Terms}
-use Rattle.supply.specs.Figures.{any, price_out, printed_out, share_out}
-use Rattle.supply.specs.Kinds.{some_out, weighted_sum, weights, wrong_count}
+use Rattle.supply.specs.Figures.{price_out, printed_out, share_out}
+use Rattle.std.specs.List.{list_any}
+use Rattle.supply.specs.Kinds.{lines_checks, some_out, weighted_sum, weights, wrong_count}
 use Rattle.supply.specs.Lines.{a_block, a_tranche}
 use Rattle.supply.specs.Terms.{seasons_out, terms_out}
 
@@ -64,13 +65,12 @@ lines_of tranches blocks terms =
 -- Line 1, by itself: the count of lines is checked first, then the lines, then the seasons.
 abbrev pub tranche_average_answer : List Tranche → Seasons → Result ℤ Refusal
 tranche_average_answer tranches seasons =
-    answer_unless (first ((wrong_count tranches, LineCount) ∷ (some_out a_tranche tranches, LineOutOfRange) ∷ (seasons_out seasons, TermOutOfRange) ∷ []))
-    (tranche_average tranches seasons)
+    answer_unless (first (lines_checks a_tranche tranches ++ (seasons_out seasons, TermOutOfRange) ∷ [])) (tranche_average tranches seasons)
 
 -- Line 3, by itself: the count of lines is checked first, then the lines.
 abbrev pub block_average_answer : List Block → Result ℤ Refusal
 block_average_answer blocks =
-    answer_unless (first ((wrong_count blocks, LineCount) ∷ (some_out a_block blocks, LineOutOfRange) ∷ [])) (block_average blocks)
+    answer_unless (first (lines_checks a_block blocks)) (block_average blocks)
 
 -- A share of a price is refused where the price is out of range, then where the share is.
 abbrev pub share_checks : ℤ → ℤ → Checks Refusal
@@ -87,7 +87,7 @@ rest_answer price share = answer_unless (first (share_checks price share)) (rest
 -- Line 5, by itself: the two parts are checked first, then the adders.
 abbrev pub subtotal_answer : ℤ → ℤ → List ℤ → Result ℤ Refusal
 subtotal_answer fixed variable adders =
-    answer_unless (first ((printed_out fixed || printed_out variable, LineOutOfRange) ∷ (any price_out adders, TermOutOfRange) ∷ []))
+    answer_unless (first ((printed_out fixed || printed_out variable, LineOutOfRange) ∷ (list_any price_out adders, TermOutOfRange) ∷ []))
     (subtotal_of fixed variable adders)
 
 -- Line 7, by itself: line 2 + line 6, each in range.

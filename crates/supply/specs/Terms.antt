@@ -2,7 +2,8 @@
 use Rattle.std.specs.Prelude.{◌+◌, Bool, not, ◌||◌, ◌==◌}
 use Rattle.supply.specs.declared.terms.Seasons.{Seasons}
 use Rattle.supply.specs.declared.terms.Terms.{Terms}
-use Rattle.supply.specs.Figures.{any, factor_out, price_out, share_out}
+use Rattle.supply.specs.Figures.{factor_out, price_out, share_out}
+use Rattle.std.specs.List.{list_any}
 
 -- A season's factor is out of range, or the months do not add to 3.
 unfoldable pub seasons_out : Seasons → Bool
@@ -13,4 +14,4 @@ seasons_out seasons =
 unfoldable pub terms_out : Terms → Bool
 terms_out terms =
     share_out terms.tranche_share
-    || (share_out terms.fixed_share || (seasons_out terms.seasons || (price_out terms.variable_price || any price_out terms.adders)))
+    || (share_out terms.fixed_share || (seasons_out terms.seasons || (price_out terms.variable_price || list_any price_out terms.adders)))

@@ -1,11 +1,8 @@
 //! Blocks of energy.
 ghost use Rattle.supply.specs.Lines.{a_block};
-ghost use Rattle.std.proofs.Common.{rules};
+ghost use Rattle.std.proofs.Common.{refl, rules};
 
 use crate::{CentsPerMwh, Weighted};
-
-/// The most MWh that one block may have.
-const MOST: u64 = 10_000_000;
 
 /// A block of energy bought at one price.
 #[derive(Clone, Copy, PartialEq, Eq, Debug)]
@@ -19,7 +16,13 @@ pub struct Block {
 impl Weighted for Block {
     ghost kind = { a_block };
 
+    ghost MOST = { 10000000 };
+
+    ghost most = { refl };
+
     ghost small = { Prim.search rules };
+
+    const MOST: u64 = 10_000_000;
 
     fn weight(&self) -> u64 {
         self.mwh
@@ -27,9 +30,5 @@ impl Weighted for Block {
 
     fn price(&self) -> CentsPerMwh {
         self.price
-    }
-
-    fn most() -> u64 {
-        MOST
     }
 }

@@ -2,7 +2,7 @@
 #![tactic(auto)]
 
 mod blocks;
-mod ranges;
+mod figures;
 mod refusal;
 mod schedule;
 mod terms;

@@ -17,6 +17,7 @@ impl Refusal {
     pub fn number(self) -> u8
         ensures { result ≡ number_of self }
     {
+        // The cast is of this enum alone, so no generic function can make it.
         self as u8
     }
 }

@@ -1,13 +1,12 @@
 //! The lines of a schedule in cents per MWh, one by one and as a whole.
 ghost use Rattle.std.specs.Prelude.{◌≡◌, false, IfOk};
-ghost use Rattle.supply.specs.Figures.{any, price_out, printed_out, share_out};
-ghost use Rattle.supply.specs.Kinds.{AmongPrices, Lawful};
-ghost use Rattle.supply.specs.Lines.{a_block, a_tranche};
-ghost use Rattle.supply.specs.Schedule.{LineByLine, block_average, block_average_answer, component_answer, lines_of, part_of, rest_answer, rest_of, schedule_answer, season_weight, share_answer, subtotal_answer, subtotal_of, tranche_average, tranche_average_answer};
-ghost use Rattle.supply.specs.Terms.{seasons_out, terms_out};
+ghost use Rattle.supply.specs.Kinds.{AmongPrices};
+ghost use Rattle.supply.specs.Lines.{a_block};
+ghost use Rattle.supply.specs.Schedule.{LineByLine, block_average_answer, component_answer, rest_answer, schedule_answer, season_weight, share_answer, subtotal_answer, tranche_average_answer};
+ghost use Rattle.supply.specs.Terms.{seasons_out};
 
-use crate::ranges::{adders_out, printed_out, seasons_out, share_out, terms_out};
-use crate::weighted::{Sums, some_out, totals, wrong_count};
+use crate::figures::{adders_out, printed_out, seasons_out, share_out, terms_out};
+use crate::weighted::{check_lines, some_out, weighted_sum, weights, wrong_count};
 use crate::{Block, CentsPerMwh, Refusal, Seasons, TenThousandths, Terms, Tranche};
 use rounding::{round_rate, times};
 
@@ -32,7 +31,7 @@ pub struct SupplyLines {
     pub cost_component: CentsPerMwh,
 }
 
-/// The whole schedule.
+/// The whole schedule: both lists' counts are checked first, then the lines of both, then the terms.
 pub fn supply_schedule(
     tranches: &[Tranche],
     blocks: &[Block],
@@ -50,23 +49,47 @@ pub fn supply_schedule(
     if terms_out(terms) {
         return Err(Refusal::TermOutOfRange);
     }
-    Ok(lines_of(tranches, blocks, terms))
+    // None of these calls refuses: each line of a lawful sheet is in range of what is worked from it.
+    let tranche_average = tranche_average(tranches, terms.seasons).unwrap();
+    let tranche_part = share_of(tranche_average, terms.tranche_share).unwrap();
+    let block_average = block_average(blocks).unwrap();
+    let fixed_part = share_of(block_average, terms.fixed_share).unwrap();
+    let variable_part = rest_of(terms.variable_price, terms.fixed_share).unwrap();
+    let block_subtotal = block_subtotal(fixed_part, variable_part, terms.adders).unwrap();
+    let block_part = rest_of(block_subtotal, terms.tranche_share).unwrap();
+    let cost_component = cost_component(tranche_part, block_part).unwrap();
+    Ok(SupplyLines {
+        tranche_average,
+        tranche_part,
+        block_average,
+        fixed_part,
+        variable_part,
+        block_subtotal,
+        block_part,
+        cost_component,
+    })
 }
 
 /// Line 1: the average price of the tranches, by the seasons' factors.
 pub fn tranche_average(tranches: &[Tranche], seasons: Seasons) -> Result<CentsPerMwh, Refusal>
     ensures { result ≡ tranche_average_answer tranches.now seasons }
 {
-    if wrong_count(tranches) {
-        return Err(Refusal::LineCount);
-    }
-    if some_out(tranches) {
-        return Err(Refusal::LineOutOfRange);
-    }
+    check_lines(tranches)?;
     if seasons_out(seasons) {
         return Err(Refusal::TermOutOfRange);
     }
-    Ok(seasonal_mean(tranches, seasons))
+    let weighted = season_weight(seasons) * weighted_sum(tranches);
+    Ok(round_rate(weighted, 300 * weights(tranches)) as i64)
+}
+
+/// Each season's factor by its months.
+#[tactic(auto, unfolding(crate::specs::Figures::outside, crate::specs::Terms::seasons_out))]
+fn season_weight(seasons: Seasons) -> i128
+    requires { seasons_out seasons ≡ false }
+    ensures { result ≡ season_weight seasons }
+{
+    let Seasons { summer, winter } = seasons;
+    times(summer.months, summer.factor) + times(winter.months, winter.factor)
 }
 
 /// Line 3: the average price of the blocks, which lies among their prices.
@@ -74,13 +97,8 @@ pub fn block_average(blocks: &[Block]) -> Result<CentsPerMwh, Refusal>
     ensures answer { result ≡ block_average_answer blocks.now }
     ensures among { IfOk result (AmongPrices a_block blocks.now) }
 {
-    if wrong_count(blocks) {
-        return Err(Refusal::LineCount);
-    }
-    if some_out(blocks) {
-        return Err(Refusal::LineOutOfRange);
-    }
-    Ok(mean(blocks))
+    check_lines(blocks)?;
+    Ok(round_rate(weighted_sum(blocks), weights(blocks)) as i64)
 }
 
 /// Lines 2 and 4: the share of a price.
@@ -93,23 +111,19 @@ pub fn share_of(price: CentsPerMwh, share: TenThousandths) -> Result<CentsPerMwh
     if share_out(share) {
         return Err(Refusal::TermOutOfRange);
     }
-    Ok(part(price, share))
+    Ok(round_rate(share as i128 * price as i128, 10_000) as i64)
 }
 
 /// Lines 4 and 6: what the share leaves of a price.
 pub fn rest_of(price: CentsPerMwh, share: TenThousandths) -> Result<CentsPerMwh, Refusal>
     ensures { result ≡ rest_answer price share }
 {
-    if printed_out(price) {
-        return Err(Refusal::LineOutOfRange);
-    }
-    if share_out(share) {
-        return Err(Refusal::TermOutOfRange);
-    }
-    Ok(rest(price, share))
+    // What a share out of range leaves is out of range too.
+    share_of(price, 10_000_i64.saturating_sub(share))
 }
 
 /// Line 5: the fixed and the variable part with the adders.
+#[tactic(auto, unfolding(crate::specs::Figures::outside))]
 pub fn block_subtotal(
     fixed: CentsPerMwh,
     variable: CentsPerMwh,
@@ -123,10 +137,11 @@ pub fn block_subtotal(
     if adders_out(&adders) {
         return Err(Refusal::TermOutOfRange);
     }
-    Ok(subtotal(fixed, variable, &adders))
+    Ok(fixed + variable + adders.iter().sum::<i64>())
 }
 
 /// Line 7: the cost component.
+#[tactic(auto, unfolding(crate::specs::Figures::outside))]
 pub fn cost_component(tranche: CentsPerMwh, block: CentsPerMwh) -> Result<CentsPerMwh, Refusal>
     ensures { result ≡ component_answer tranche block }
 {
@@ -134,91 +149,4 @@ pub fn cost_component(tranche: CentsPerMwh, block: CentsPerMwh) -> Result<CentsP
         return Err(Refusal::LineOutOfRange);
     }
     Ok(tranche + block)
-}
-
-/// The lines of a lawful sheet.
-fn lines_of(tranches: &[Tranche], blocks: &[Block], terms: &Terms) -> SupplyLines
-    requires tranches { Lawful a_tranche tranches.now }
-    requires blocks { Lawful a_block blocks.now }
-    requires terms { terms_out terms.now ≡ false }
-    ensures value { result ≡ lines_of tranches.now blocks.now terms.now }
-    ensures in_a_row { LineByLine tranches.now blocks.now terms.now result }
-{
-    let tranche_average = seasonal_mean(tranches, terms.seasons);
-    let tranche_part = part(tranche_average, terms.tranche_share);
-    let block_average = mean(blocks);
-    let fixed_part = part(block_average, terms.fixed_share);
-    let variable_part = rest(terms.variable_price, terms.fixed_share);
-    let block_subtotal = subtotal(fixed_part, variable_part, &terms.adders);
-    let block_part = rest(block_subtotal, terms.tranche_share);
-    SupplyLines {
-        tranche_average,
-        tranche_part,
-        block_average,
-        fixed_part,
-        variable_part,
-        block_subtotal,
-        block_part,
-        cost_component: tranche_part + block_part,
-    }
-}
-
-/// Line 1 of lawful tranches and seasons.
-fn seasonal_mean(tranches: &[Tranche], seasons: Seasons) -> CentsPerMwh
-    requires tranches { Lawful a_tranche tranches.now }
-    requires seasons { seasons_out seasons ≡ false }
-    ensures { result ≡ tranche_average tranches.now seasons }
-{
-    let Sums { weighted, weights } = totals(tranches);
-    round_rate(season_weight(seasons) * weighted, 300 * weights) as i64
-}
-
-/// Each season's factor by its months.
-fn season_weight(seasons: Seasons) -> i128
-    requires { seasons_out seasons ≡ false }
-    ensures { result ≡ season_weight seasons }
-{
-    let Seasons { summer, winter } = seasons;
-    times(summer.months, summer.factor) + times(winter.months, winter.factor)
-}
-
-/// Line 3 of lawful blocks.
-fn mean(blocks: &[Block]) -> CentsPerMwh
-    requires { Lawful a_block blocks.now }
-    ensures { result ≡ block_average blocks.now }
-{
-    let Sums { weighted, weights } = totals(blocks);
-    round_rate(weighted, weights) as i64
-}
-
-/// A lawful share of a price in range.
-fn part(price: CentsPerMwh, share: TenThousandths) -> CentsPerMwh
-    requires price { printed_out price ≡ false }
-    requires share { share_out share ≡ false }
-    ensures { result ≡ part_of price share }
-{
-    round_rate(share as i128 * price as i128, 10_000) as i64
-}
-
-/// What a lawful share leaves of a price in range.
-fn rest(price: CentsPerMwh, share: TenThousandths) -> CentsPerMwh
-    requires price { printed_out price ≡ false }
-    requires share { share_out share ≡ false }
-    ensures { result ≡ rest_of price share }
-{
-    part(price, 10_000 - share)
-}
-
-/// Line 5 of parts and adders in range.
-fn subtotal(fixed: CentsPerMwh, variable: CentsPerMwh, adders: &[CentsPerMwh; 3]) -> CentsPerMwh
-    requires fixed { printed_out fixed ≡ false }
-    requires variable { printed_out variable ≡ false }
-    requires adders { any price_out adders.now ≡ false }
-    ensures { result ≡ subtotal_of fixed variable adders.now }
-{
-    let mut total = fixed + variable;
-    for adder in adders {
-        total += *adder;
-    }
-    total
 }

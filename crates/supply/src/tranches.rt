@@ -1,11 +1,8 @@
 //! Tranches won at auction.
 ghost use Rattle.supply.specs.Lines.{a_tranche};
-ghost use Rattle.std.proofs.Common.{rules};
+ghost use Rattle.std.proofs.Common.{refl, rules};
 
 use crate::{CentsPerMwh, Weighted};
-
-/// The most tranches that one line may have.
-const MOST: u64 = 100;
 
 /// A number of tranches won at auction at one price.
 #[derive(Clone, Copy, PartialEq, Eq, Debug)]
@@ -19,7 +16,13 @@ pub struct Tranche {
 impl Weighted for Tranche {
     ghost kind = { a_tranche };
 
+    ghost MOST = { 100 };
+
+    ghost most = { refl };
+
     ghost small = { Prim.search rules };
+
+    const MOST: u64 = 100;
 
     fn weight(&self) -> u64 {
         self.count
@@ -27,9 +30,5 @@ impl Weighted for Tranche {
 
     fn price(&self) -> CentsPerMwh {
         self.price
-    }
-
-    fn most() -> u64 {
-        MOST
     }
 }

@@ -1,15 +1,22 @@
 //! Lists of lines that have a weight and a price.
-ghost use Rattle.std.specs.Prelude.{◌≡◌, ◌≤◌, false};
-ghost use Rattle.supply.specs.Kinds.{Kind, Lawful, line_out, some_out, weighted_sum, weights, wrong_count};
+ghost use Rattle.std.specs.Prelude.{◌≡◌, ℕ, ◌≤◌, false};
+ghost use Rattle.refusals.specs.Checks.{answer_unless, first};
+ghost use Rattle.supply.specs.Kinds.{Kind, Lawful, line_out, lines_checks, some_out, weighted_sum, weights, wrong_count};
 
-use crate::CentsPerMwh;
-use crate::ranges::price_out;
+use crate::figures::price_out;
+use crate::{CentsPerMwh, Refusal};
 use rounding::times;
 
 /// A line with a weight, 1 to the most that its kind allows, and a price in cents per MWh, 0 to 100,000.
 pub trait Weighted {
     // What a line of this kind means: its weight, its price, and the largest lawful weight.
     ghost kind: { Kind Self };
+
+    // The constant below, as clauses name it.
+    ghost MOST: { ℕ };
+
+    /// The largest lawful weight.
+    const MOST: u64;
 
     /// What the price is weighted by.
     fn weight(&self) -> u64
@@ -19,62 +26,64 @@ pub trait Weighted {
     fn price(&self) -> CentsPerMwh
         ensures { result ≡ kind.price self.now };
 
-    /// The largest lawful weight.
-    fn most() -> u64
-        ensures { result ≡ kind.most };
+    // The constant is what the kind means.
+    ghost most: { MOST ≡ kind.most };
 
     // Sums of up to 64 lines stay small.
     ghost small: { kind.most ≤ 10000000 };
 }
 
-/// Two sums over a list of lines.
-#[derive(Clone, Copy)]
-pub(crate) struct Sums {
-    /// The sum of weight times price.
-    pub weighted: i128,
-    /// The sum of the weights.
-    pub weights: u64,
-}
-
 /// Whether a list has no lines, or over 64.
+#[tactic(auto, unfolding(crate::specs::Kinds::wrong_count))]
 pub(crate) fn wrong_count<L>(lines: &[L]) -> bool
     ensures { result ≡ wrong_count lines.now }
 {
-    lines.len() == 0 || lines.len() > 64
+    !(1..=64).contains(&lines.len())
 }
 
 /// Whether the weight or the price of a line is out of range.
+#[tactic(auto, unfolding(crate::specs::Kinds::line_out))]
 fn line_out<L: Weighted>(line: &L) -> bool
     ensures { result ≡ line_out L.Weighted.kind line.now }
 {
-    let weight = line.weight();
-    weight == 0 || weight > L::most() || price_out(line.price())
+    !(1..=L::MOST).contains(&line.weight()) || price_out(line.price())
 }
 
 /// Whether a line of a list is out of range.
 pub(crate) fn some_out<L: Weighted>(lines: &[L]) -> bool
     ensures { result ≡ some_out L.Weighted.kind lines.now }
 {
-    for line in lines {
-        if line_out(line) {
-            return true;
-        }
-    }
-    false
+    lines.iter().any(|line| line_out(line))
 }
 
-/// The two sums of a lawful list.
-pub(crate) fn totals<L: Weighted>(lines: &[L]) -> Sums
-    requires { Lawful L.Weighted.kind lines.now }
-    ensures weighted { result.weighted ≡ weighted_sum L.Weighted.kind lines.now }
-    ensures weights { result.weights ≡ weights L.Weighted.kind lines.now }
+/// The refusal of a list: its count is checked first, then its lines.
+pub(crate) fn check_lines<L: Weighted>(lines: &[L]) -> Result<(), Refusal>
+    ensures { result ≡ answer_unless (first (lines_checks L.Weighted.kind lines.now)) tt }
 {
-    let mut weighted = 0;
-    let mut weights = 0;
-    for line in lines {
-        let weight = line.weight();
-        weights += weight;
-        weighted += times(weight, line.price());
+    if wrong_count(lines) {
+        return Err(Refusal::LineCount);
     }
-    Sums { weighted, weights }
+    if some_out(lines) {
+        return Err(Refusal::LineOutOfRange);
+    }
+    Ok(())
+}
+
+/// The sum of weight times price over a lawful list.
+pub(crate) fn weighted_sum<L: Weighted>(lines: &[L]) -> i128
+    requires { Lawful L.Weighted.kind lines.now }
+    ensures { result ≡ weighted_sum L.Weighted.kind lines.now }
+{
+    lines
+        .iter()
+        .map(|line| times(line.weight(), line.price()))
+        .sum()
+}
+
+/// The sum of the weights of a lawful list.
+pub(crate) fn weights<L: Weighted>(lines: &[L]) -> u64
+    requires { Lawful L.Weighted.kind lines.now }
+    ensures { result ≡ weights L.Weighted.kind lines.now }
+{
+    lines.iter().map(|line| line.weight()).sum()
 }

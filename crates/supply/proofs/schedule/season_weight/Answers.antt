@@ -1,4 +1,4 @@
-use Rattle.std.proofs.Common.{◌≡◌, ℕ, ℤ, pos, ◌+ℤ◌, ◌*ℤ◌, ap, ◌∙◌, arith, w64, SFits, to_z, of_z}
+use Rattle.std.proofs.Common.{◌≡◌, ℕ, ℤ, pos, ◌+ℤ◌, ◌*ℤ◌, ap, ◌∙◌, arith, w64, to_z, of_z}
 use borrow.Author.Differences.{ints, up, down}
 use mir.Syntax.{w128}
 use Rattle.supply.specs.declared.terms.Seasons.{Seasons}
@@ -18,13 +18,6 @@ module _ (seasons : Seasons) (ok : InSeason seasons) (a b : ℤ) (ha : a ≡ pos
   unfolding season_weight
   whole = cc
 
-  fits : SFits w128 (to_z w128 (of_z w128 a) +ℤ to_z w128 (of_z w128 b))
-  fits =
-      let x = one seasons.summer.months 50 200 seasons.summer.factor ok.summer.0 ok.summer.1 in
-      let y = one seasons.winter.months 50 200 seasons.winter.factor ok.winter.0 ok.winter.1 in
-      let three = ok.months in
-      omega (arith, ints, x.0, x.1, y.0, y.1, ap up ha, ap down ha, ap up hb, ap down hb)
-
   code : to_z w128 (of_z w128 (to_z w128 (of_z w128 a) +ℤ to_z w128 (of_z w128 b))) ≡ a +ℤ b
   code =
       let x = one seasons.summer.months 50 200 seasons.summer.factor ok.summer.0 ok.summer.1 in
@@ -39,9 +32,6 @@ summer c =
 winter : (c : goal.After-times-2) → c.times-2.result ≡ pos c.args.seasons.winter.months *ℤ c.args.seasons.winter.factor
 winter c =
     product c.args.seasons.winter.months c.args.seasons.winter.factor c.times-2.result (in_season c.args.seasons c.requires).winter c.times-2.ensures.value
-
-pub overflow_add-result : goal.overflow_add-result
-overflow_add-result c = fits c.args.seasons (in_season c.args.seasons c.requires) c.times.result c.times-2.result (summer c) (winter c)
 
 pub returns : goal.returns
 returns c =

@@ -1,46 +1,47 @@
 //! Whether figures are out of range.
+ghost use Rattle.std.specs.List.{list_any};
 ghost use Rattle.std.specs.Prelude.{◌≡◌};
-ghost use Rattle.supply.specs.Figures.{any, factor_out, outside, price_out, printed_out, share_out};
+ghost use Rattle.supply.specs.Figures.{factor_out, price_out, printed_out, share_out};
 ghost use Rattle.supply.specs.Terms.{seasons_out, terms_out};
 
 use crate::{CentsPerMwh, Hundredths, Seasons, TenThousandths, Terms};
 
-/// Whether a figure is below `low` or above `high`.
-fn outside(low: i64, high: i64, figure: i64) -> bool
-    ensures { result ≡ outside low high figure }
-{
-    figure < low || figure > high
-}
+// Four names over the library's `contains`: each contract cites the range of its name, and says its bounds once.
 
 /// Whether a price as given is out of range.
+#[tactic(auto, unfolding(crate::specs::Figures::outside))]
 pub(crate) fn price_out(price: CentsPerMwh) -> bool
     ensures { result ≡ price_out price }
 {
-    outside(0, 100_000, price)
+    !(0..=100_000).contains(&price)
 }
 
 /// Whether a price as printed on a line is out of range.
+#[tactic(auto, unfolding(crate::specs::Figures::outside))]
 pub(crate) fn printed_out(price: CentsPerMwh) -> bool
     ensures { result ≡ printed_out price }
 {
-    outside(0, 1_000_000, price)
+    !(0..=1_000_000).contains(&price)
 }
 
 /// Whether a share is out of range.
+#[tactic(auto, unfolding(crate::specs::Figures::outside))]
 pub(crate) fn share_out(share: TenThousandths) -> bool
     ensures { result ≡ share_out share }
 {
-    outside(0, 10_000, share)
+    !(0..=10_000).contains(&share)
 }
 
 /// Whether a season's factor is out of range.
+#[tactic(auto, unfolding(crate::specs::Figures::outside))]
 fn factor_out(factor: Hundredths) -> bool
     ensures { result ≡ factor_out factor }
 {
-    outside(50, 200, factor)
+    !(50..=200).contains(&factor)
 }
 
 /// Whether a factor is out of range, or the months do not add to 3.
+#[tactic(auto, unfolding(crate::specs::Terms::seasons_out))]
 pub(crate) fn seasons_out(seasons: Seasons) -> bool
     ensures { result ≡ seasons_out seasons }
 {
@@ -53,17 +54,13 @@ pub(crate) fn seasons_out(seasons: Seasons) -> bool
 
 /// Whether an adder is out of range.
 pub(crate) fn adders_out(adders: &[CentsPerMwh]) -> bool
-    ensures { result ≡ any price_out adders.now }
+    ensures { result ≡ list_any price_out adders.now }
 {
-    for adder in adders {
-        if price_out(*adder) {
-            return true;
-        }
-    }
-    false
+    adders.iter().any(|adder| price_out(*adder))
 }
 
 /// Whether a term of a schedule is out of range.
+#[tactic(auto, unfolding(crate::specs::Terms::terms_out))]
 pub(crate) fn terms_out(terms: &Terms) -> bool
     ensures { result ≡ terms_out terms.now }
 {
