@@ -1,8 +1,9 @@
 -- The figures of an account agree with its journal.
 use Rattle.std.proofs.Common.{◌≡◌, ℕ, zero, suc, ◌+◌, ◌-◌, ◌<◌, ◌≤◌, true, false, cond, ◌||◌, eqb, ltb, List, [], ◌∷◌, length, get_or, set, ℤ, pos, ◌+ℤ◌, nat_abs, is_ok, Some, None, fold, Option, Result, sym, refl, ap, ◌∙◌, subst, arith, lit≤, ltb-false, eq-eqb, eqb-true}
-use lib.Signed.{lt_z}
-use borrow.Author.Differences.{ints}
-use borrow.Author.Tests.{not-false, both_ways}
+use Rattle.std.specs.Int.Signed.{lt_z}
+use Rattle.std.proofs.lemmas.Int.{ints}
+use Rattle.std.proofs.lemmas.Bool.{not-false, both_ways}
+use Rattle.std.proofs.lemmas.Option.{none-some}
 use Rattle.std.proofs.lemmas.List.{length-set}
 use Rattle.designs.specs.Cutting.{part_of}
 use Rattle.designs.specs.Meanings.{Meaning}
@@ -102,9 +103,6 @@ pub in_range : (kind : ℕ) → (ltb kind 1 || ltb 8 kind) ≡ false → kind - 
 in_range kind e = let h = or_false (ltb kind 1) (ltb 8 kind) e in omega (arith, ltb-false kind 1 h.0, ltb-false 8 kind h.1)
 
 -- ---- a filing
-
-never : {X : Type 0} {p : Pending} → None ≡ Some p → X
-never {X} {p} e = let z : ◌≡◌ {A = ℕ} 0 1 = cc in absurd (omega arith)
 
 -- a token of the pending filing has its number
 is_recorded : {D : Type 0} (f : Figures D) (filing : Filing) (pending : Option Pending) → is_pending f filing pending ≡ true → (pending ≡ Some (recorded pending)) × (filing.number ≡ (recorded pending).number)
@@ -216,7 +214,7 @@ module _ {D : Type 0} (o : Opening D) (j : Journal D) (f : Figures D) (a : Agree
           rate = record { design = refl; e = w.e; reach = subst WithinReach w.e w.reach };
           closings = a.closings;
           month = a.month;
-          filings = record { count = a.filings.count; own = λ q h. never h };
+          filings = record { count = a.filings.count; own = λ q h. absurd (none-some q h) };
         }
 
     after_withdraw : (filing : Filing) → After m o j (withdraw filing) (withdraw_rule f filing)
@@ -226,7 +224,7 @@ module _ {D : Type 0} (o : Opening D) (j : Journal D) (f : Figures D) (a : Agree
           rate = a.rate;
           closings = a.closings;
           month = a.month;
-          filings = record { count = a.filings.count; own = λ q h. never h };
+          filings = record { count = a.filings.count; own = λ q h. absurd (none-some q h) };
         }
 
     after : (call : Call D) → After m o j call (rule m f call)
@@ -255,7 +253,7 @@ at_opening {D} o f h = subst P h.1 start refl
           rate = record { design = refl; e = refl; reach = lit≤ tt };
           closings = record { last = refl; closed = refl };
           month = record { costs = refl; lines = refl; bills = refl; quantity = refl; billed = refl };
-          filings = record { count = refl; own = λ p e. never e };
+          filings = record { count = refl; own = λ p e. absurd (none-some p e) };
         }
 
 -- the figures that a run leads to agree with its journal

@@ -1,6 +1,6 @@
 -- How far bills net of tax stray from base charges and E, summed over months.
 use Rattle.std.proofs.Common.{◌≡◌, ℕ, ◌+◌, ◌-◌, ◌*◌, ◌≤◌, List, [], ◌∷◌, length, ℤ, pos, ◌+ℤ◌, ◌-ℤ◌, ◌*ℤ◌, sym, refl, ap, ◌∙◌, mul-suc, mul-add, arith, lit<}
-use borrow.Author.Differences.{ints}
+use Rattle.std.proofs.lemmas.Int.{ints}
 use Rattle.std.specs.List.{AllByRecursion}
 use Rattle.designs.specs.Meanings.{rate_units_per_cent}
 use Rattle.reconciliation.specs.Reconciliation.{net_of, rate_of, tax_on}

@@ -1,9 +1,12 @@
 -- The sums and laws worked by hand come out.
-use Rattle.std.proofs.Common.{[], ◌∷◌, refl, arith, lit≤}
+use Rattle.std.proofs.Common.{◌≡◌, ℕ, false, [], ◌∷◌, refl, arith, lit≤}
+use Rattle.std.proofs.lemmas.List.Elements.{All-from_recursion}
 use Rattle.reconciliation.specs.Reconciliation as reconciliation
 use Rattle.rounding.specs.Rounding as rounding
+use Rattle.account.specs.Journal.{Entry}
 use Rattle.account.specs.Journal.Entry.{forced, filed}
-use Rattle.account.specs.Worked.{Worked, first_filing, next_filing}
+use Rattle.account.specs.Laws.{is_force}
+use Rattle.account.specs.Worked.{Worked, first_filing, next_filing, worked_term}
 
 pub by_hand : Worked
 unfolding rounding.half_up rounding.nearest rounding.money_rounded rounding.rate_rounded reconciliation.tax_on reconciliation.net_of reconciliation.rate_of
@@ -20,7 +23,7 @@ by_hand = record {
     later = forced next_filing 2 ∷ [];
     earlier = filed first_filing ∷ [];
     parts = refl;
-    one = (refl, (refl, (refl, (refl, (refl, (refl, (refl, (refl, tt))))))));
+    one = All-from_recursion (λ (entry : Entry ℕ). is_force entry ≡ false) worked_term (refl, (refl, (refl, (refl, (refl, (refl, (refl, (refl, tt))))))));
   };
   one_cent_recovers = lit≤ tt;
   two_cents_do_not = λ h. omega arith;

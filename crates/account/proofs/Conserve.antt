@@ -1,6 +1,6 @@
 -- Conservation, of every run.
 use Rattle.std.proofs.Common.{◌≡◌, List, [], ◌∷◌, pos, ◌+ℤ◌, refl, arith}
-use borrow.Author.Differences.{ints}
+use Rattle.std.proofs.lemmas.Int.{ints}
 use Rattle.designs.specs.Meanings.{Meaning}
 use Rattle.account.specs.declared.figures.Figures.{Figures}
 use Rattle.account.specs.declared.opening.Opening.{Opening}

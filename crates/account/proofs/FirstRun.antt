@@ -1,6 +1,9 @@
 -- The run of the first term, from what its calls ensure.
-use Rattle.std.proofs.Common.{◌≡◌, ℕ, ◌+◌, Bool, true, false, cond, [], ◌∷◌, length, is_ok, Ok, Result, sym, refl, ap, ◌∙◌, subst, arith, eq-eqb}
-use borrow.Author.Tests.{both_ways}
+use Rattle.std.proofs.Common.{◌≡◌, ℕ, ◌+◌, Bool, true, false, cond, [], ◌∷◌, length, is_ok, Some, Ok, Err, Result, sym, refl, ap, ◌∙◌, subst, arith, eq-eqb}
+use Rattle.std.proofs.lemmas.Bool.{both_ways}
+use Rattle.std.specs.Result.{result_ok}
+use Rattle.std.proofs.lemmas.List.Elements.{All-from_recursion}
+use Rattle.std.proofs.lemmas.Option.{none-some}
 use Rattle.designs.specs.Cutting.{part_of}
 use Rattle.designs.specs.Meanings.{Meaning}
 use Rattle.reconciliation.specs.declared.figures.RateUnits.{RateUnits}
@@ -13,12 +16,12 @@ use Rattle.account.specs.declared.filings.Draft.{Draft}
 use Rattle.account.specs.declared.filings.Filing.{Filing}
 use Rattle.account.specs.declared.opening.Opening.{Opening}
 use Rattle.account.specs.declared.refusal.Refusal.{Refusal}
-use Rattle.account.specs.Calls.{History, LeadsTo, outcomes}
+use Rattle.account.specs.Calls.{Step, History, LeadsTo, outcomes}
 use Rattle.account.specs.Calls.Call.{cost, bill, close, file, force, withdraw, read}
 use Rattle.account.specs.FirstTerm.{Asked, Ran, second_filing, term_made, until_force}
-use Rattle.account.specs.Journal.{Filed, Journal, added, bill_of, e_of, filing_now, journal, made, own_filing, tax_in_force}
+use Rattle.account.specs.Journal.{Entry, Filed, Journal, added, bill_of, e_of, filing_now, journal, made, own_filing, tax_in_force}
 use Rattle.account.specs.Journal.Entry.{costed, billed, filed as filed_entry}
-use Rattle.account.specs.Laws.{EveryRun, Laws, Reordered, Taken, Term}
+use Rattle.account.specs.Laws.{EveryRun, Laws, Reordered, Taken, TakenAt, Term, is_force}
 use Rattle.account.specs.Laws.Reordered.{same, swapped}
 use Rattle.account.proofs.Agree.{agree}
 use Rattle.account.specs.Rules.{open_rule, cost_rule, bill_rule, close_rule, e_filed, file_checks, file_rule, filed, filing_at, force_rule, withdraw_rule, reading_of}
@@ -26,6 +29,11 @@ use Rattle.account.specs.Rules.{open_rule, cost_rule, bill_rule, close_rule, e_f
 -- a call answered, and its answer is known
 pub answered : {A S : Type 0} {r r' : A} {f : S} {x : A × S} → r ≡ r' → (r, f) ≡ x → (r', f) ≡ x
 answered {A} {S} {r} {r'} {f} {x} e h = subst (λ (q : A). (q, f) ≡ x) e h
+
+-- a call whose answer was taken by `ok()?` answered `Ok`
+pub accepted_with : {T E S : Type 0} {r : Result T E} {v : T} {f : S} {x : Result T E × S} → Some v ≡ result_ok r → (r, f) ≡ x → (Ok v, f) ≡ x
+accepted_with {r = Ok u} e h = answered (let z : u ≡ _ = cc in ap Ok z) h
+accepted_with {r = Err u} {v} e h = absurd (none-some v (sym e))
 
 -- a filing has the next number
 numbered : {D : Type 0} (f : Figures D) (draft : Draft) (filing : Filing) (g : Figures D) → (Ok filing, g) ≡ file_rule f draft → filing.number ≡ f.ledger.filings + 1
@@ -118,16 +126,20 @@ module _ {D : Type 0} (m : D → Meaning) (o : Opening D) (a : Asked D) (s : Sta
   no_entry e = absurd (both_ways false refl e)
 
   taken : Taken whole
-  taken = (λ _. refl, (λ _. refl, (λ _. refl, (λ _. refl, (no_entry, (no_entry, (λ _. refl, (no_entry, (λ _. refl, tt)))))))))
+  taken = All-from_recursion (λ (s : Step D). TakenAt s) whole (λ _. refl, (λ _. refl, (λ _. refl, (λ _. refl, (no_entry, (no_entry, (λ _. refl, (no_entry, (λ _. refl, tt)))))))))
+
+  -- the term, of whatever filing
+  abbrev term_of : Filed → Journal D
+  term_of filing = costed a.amount ∷ billed (bill_of (m a.design) (part_of a.held 0 (length a.held)) (e_of filing) (tax_in_force o)) ∷ []
 
   pub ran : (r : Reading) → Ensured m o a s → EveryRun m s.costed r → Ran m o a s.costed r
   ran r h every =
       let laws : Laws m o whole s.costed r = every o whole (leads h) in
       let term : Term (journal m o (outcomes whole)) (second_filing o a) a.design (term_made m o a) =
       subst
-      (λ (filing : Filed). Term (journal m o (outcomes whole)) filing a.design (costed a.amount ∷ billed (bill_of (m a.design) (part_of a.held 0 (length a.held)) (e_of filing) (tax_in_force o)) ∷ []))
+      (λ (filing : Filed). Term (journal m o (outcomes whole)) filing a.design (term_of filing))
       (filing_is h)
-      (record { later = []; earlier = earlier; parts = refl; one = (refl, (refl, tt)) }) in
+      (record { later = []; earlier = earlier; parts = refl; one = All-from_recursion (λ (entry : Entry D). is_force entry ≡ false) (term_of (own_filing s.second.number earlier)) (refl, (refl, tt)) }) in
       record {
         history = whole;
         withdrawn = s.first;

@@ -6,6 +6,7 @@ mod ByHand
 mod Whole
 mod CutBills
 mod Joined
+mod LineTotals
 mod Agree
 mod Conserve
 mod Bounds

@@ -1,8 +1,10 @@
 -- Costs and bills of a month may come in any order.
 use Rattle.std.proofs.Common.{◌≡◌, ℕ, ◌+◌, ◌-◌, ◌<◌, true, false, cond, ◌≢◌, List, [], ◌∷◌, length, get_or, set, ℤ, is_ok, Result, sym, refl, ap, ◌∙◌, subst, ⊎_elim, arith, leb-false}
-use borrow.Author.Differences.{ints}
-use borrow.Author.Tests.{lt-leb, both_ways}
+use Rattle.std.proofs.lemmas.Int.{ints}
+use Rattle.std.proofs.lemmas.Bool.{lt-leb, both_ways}
+use Rattle.std.specs.List.{AllByRecursion}
 use Rattle.std.proofs.lemmas.Bool.{cases_eq}
+use Rattle.std.proofs.lemmas.List.Elements.{All-from_recursion, recursion_from_All}
 use Rattle.std.proofs.lemmas.List.{set-set, set_comm, get_or-set_same, get_or-set_other}
 use Rattle.designs.specs.Cutting.{part_of}
 use Rattle.designs.specs.Meanings.{Meaning}
@@ -19,7 +21,7 @@ use Rattle.account.specs.Limits.{most_entries}
 use Rattle.account.specs.Rules.{with_month, entered, cost_checks, costed, cost_rule, bill_told, bill_checks, billed_to, bill_rule, opened, open_checks, open_rule}
 use Rattle.account.specs.Calls.{Call, rule, accepted, Step, History, Opens, LeadsTo}
 use Rattle.account.specs.Calls.Call.{cost, bill, close, file, force, withdraw, read}
-use Rattle.account.specs.Laws.{is_entry, Reordered, calls, Taken, others, Order}
+use Rattle.account.specs.Laws.{is_entry, Reordered, calls, Taken, TakenAt, others, Order}
 use Rattle.account.specs.Laws.Reordered.{none, same, swapped, then}
 use Rattle.account.proofs.Agree.{agree, in_range}
 use Rattle.account.proofs.Joined.{had_room, where_room}
@@ -202,9 +204,13 @@ record Follows {D : Type 0} (m : D → Meaning) (start : Figures D) (h : History
   figures : f ≡ run m start (calls h)
   history : h ≡ answered m start (calls h)
 
+-- no cost or bill was refused, by recursion on the history
+abbrev Takes : {D : Type 0} → History D → Type 0
+Takes {D} h = AllByRecursion (λ (s : Step D). TakenAt s) h
+
 -- Two runs of calls answer alike and end equal.
 record Alike {D : Type 0} (m : D → Meaning) (start : Figures D) (xs ys : List (Call D)) : Type 0 where
-  takes : Taken (answered m start ys)
+  takes : Takes (answered m start ys)
   answers : others (answered m start xs) ≡ others (answered m start ys)
   ends : run m start xs ≡ run m start ys
 
@@ -243,7 +249,7 @@ module _ {D : Type 0} (m : D → Meaning) (o : Opening D) where
     skip : (call : Call D) (g : Figures D) → is_entry call ≡ true → (hs : History D) → cond (is_entry call) hs (step_at m g call ∷ hs) ≡ hs
     skip call g e hs = ap (λ q. cond q hs (step_at m g call ∷ hs)) e
 
-    reordered : {xs ys : List (Call D)} → Reordered xs ys → Taken (answered m (opened o) xs) → Alike m (opened o) xs ys
+    reordered : {xs ys : List (Call D)} → Reordered xs ys → Takes (answered m (opened o) xs) → Alike m (opened o) xs ys
     reordered none t = record { takes = tt; answers = refl; ends = refl }
     reordered (same call {xs} {ys} r) t =
         let i = reordered r t.1 in
@@ -271,5 +277,5 @@ module _ {D : Type 0} (m : D → Meaning) (o : Opening D) where
   run_ordered h f w h' f' w' r t =
       let p = follows h f w in
       let q = follows h' f' w' in
-      let k = reordered (began h f w) r (subst Taken p.history t) in
-      (subst Taken (sym q.history) k.takes, ap others p.history ∙ k.answers ∙ sym (ap others q.history), p.figures ∙ k.ends ∙ sym q.figures)
+      let k = reordered (began h f w) r (recursion_from_All (λ (s : Step D). TakenAt s) _ (subst Taken p.history t)) in
+      (subst Taken (sym q.history) (All-from_recursion (λ (s : Step D). TakenAt s) _ k.takes), ap others p.history ∙ k.answers ∙ sym (ap others q.history), p.figures ∙ k.ends ∙ sym q.figures)

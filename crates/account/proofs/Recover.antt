@@ -1,8 +1,9 @@
 -- Recovery, of every run.
 use Rattle.std.proofs.Common.{◌≡◌, ℕ, ◌+◌, ◌≤◌, Bool, true, false, cond, eqb, ltb, List, [], ◌∷◌, ◌++◌, length, ℤ, sym, refl, ap, ◌∙◌, subst, arith, ltb-false, eqb-true}
-use borrow.Author.Tests.{eqb-false, not-false, both_ways}
+use Rattle.std.proofs.lemmas.Bool.{eqb-false, not-false, both_ways}
 use Rattle.std.specs.List.{AllByRecursion}
 use Rattle.std.proofs.lemmas.List.{nil_from_length}
+use Rattle.std.proofs.lemmas.List.Elements.{recursion_from_All}
 use Rattle.designs.specs.Cutting.{part_of, period_checks, hour_checks}
 use Rattle.designs.specs.Meanings.{Meaning, Sound}
 use Rattle.designs.specs.Periods.{Lawful}
@@ -162,5 +163,5 @@ module _ {D : Type 0} (m : D → Meaning) (o : Opening D) where
         record {
           own = s.1;
           unbilled = s.2;
-          recovered = recovered (m design).c (m design).u (tax_in_force o) filing (agree m o h f w).terms.tax_high s.0 (all_months term) (term_keeps filing design t.earlier term t.one g);
+          recovered = recovered (m design).c (m design).u (tax_in_force o) filing (agree m o h f w).terms.tax_high s.0 (all_months term) (term_keeps filing design t.earlier term (recursion_from_All _ term t.one) g);
         }

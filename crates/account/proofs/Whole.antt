@@ -1,6 +1,7 @@
 -- Laws of products that `omega` does not reach, since a product of two unknowns is an unknown to it.
 use Rattle.std.proofs.Common.{◌≡◌, ℕ, ◌+◌, ◌*◌, ℤ, pos, ◌+ℤ◌, ◌-ℤ◌, ◌*ℤ◌, neg_ℤ, nat_abs, ap, ◌∙◌, mul_assoc, add-mul, arith}
-use borrow.Author.Differences.{ints, up, down, same_in, sum_is_lem, neg_is, product_is}
+use borrow.Author.Differences.{up, down, same_in, sum_is_lem, neg_is, product_is}
+use Rattle.std.proofs.lemmas.Int.{ints}
 use Rattle.rounding.proofs.Gaps.{times_is, by_is, product_size}
 use Rattle.rounding.specs.Rounding.{gap}
 

@@ -1,6 +1,5 @@
 -- The laws of every run of an account, whatever its design.
-use Rattle.std.specs.Prelude.{◌≡◌, ℕ, ◌+◌, ◌*◌, ◌≤◌, Bool, true, false, cond, List, [], ◌∷◌, ◌++◌, map, length, ℤ, pos, ◌+ℤ◌, ◌*ℤ◌, unsigned_abs}
-use Rattle.std.specs.List.{AllByRecursion}
+use Rattle.std.specs.Prelude.{◌≡◌, ℕ, ◌+◌, ◌*◌, ◌≤◌, Bool, true, false, cond, All, List, [], ◌∷◌, ◌++◌, map, length, ℤ, pos, ◌+ℤ◌, ◌*ℤ◌, unsigned_abs}
 use Rattle.designs.specs.Meanings.{Meaning}
 use Rattle.rounding.specs.Rounding.{gap}
 use Rattle.account.specs.declared.answers.Reading.{Reading}
@@ -97,7 +96,7 @@ pub record Term {D : Type 0} (j : Journal D) (filing : Filed) (design : D) (term
   pub later : Journal D
   pub earlier : Journal D
   pub parts : j ≡ later ++ (term ++ (forced filing design ∷ earlier))
-  pub one : AllByRecursion (λ (entry : Entry D). is_force entry ≡ false) term
+  pub one : All (λ (entry : Entry D). is_force entry ≡ false) term
 
 -- This account made a filing: of its last balance at that time, and with its next number.
 pub record Made {D : Type 0} (o : Opening D) (j : Journal D) (filing : Filed) : Type 0 where
@@ -142,9 +141,13 @@ pub data Reordered {D : Type 0} : List (Call D) → List (Call D) → Type 0 whe
 abbrev pub calls : {D : Type 0} → History D → List (Call D)
 calls h = map (λ s. s.call) h
 
+-- A step is no cost or bill, or it was accepted.
+abbrev pub TakenAt : {D : Type 0} → Step D → Type 0
+TakenAt s = is_entry s.call ≡ true → accepted s.call s.answer ≡ true
+
 -- No cost or bill was refused.
 abbrev pub Taken : {D : Type 0} → History D → Type 0
-Taken {D} h = AllByRecursion (λ (s : Step D). is_entry s.call ≡ true → accepted s.call s.answer ≡ true) h
+Taken {D} h = All (λ (s : Step D). TakenAt s) h
 
 -- The other calls, with their answers.
 abbrev pub others : {D : Type 0} → History D → History D

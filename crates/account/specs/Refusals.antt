@@ -1,6 +1,6 @@
 -- The number that tells each refusal.
 use Rattle.std.specs.Prelude.{ℕ}
-use Rattle.designs.specs.Refusals.{number_of as period_number}
+use Rattle.designs.specs.Refusals.{period_number}
 use Rattle.reconciliation.specs.declared.refusal.Refusal.{Refusal as FigureRefusal}
 use Rattle.reconciliation.specs.declared.refusal.Refusal.TheVariants.{TaxOrInterest as FigureTaxOrInterest, Projections as FigureProjections, RateTooLarge as FigureRateTooLarge}
 use Rattle.account.specs.declared.refusal.BillRefusal.{BillRefusal}
@@ -31,7 +31,7 @@ number_of FilingsFull = 47
 
 -- The number of a bill's refusal.
 abbrev pub bill_number : BillRefusal → ℕ
-bill_number (OfPeriod refusal) = period_number refusal.refusal
+bill_number (OfPeriod refusal) = period_number refusal
 bill_number (OfAccount refusal) = number_of refusal
 
 -- The refusal of a figure, which keeps its number, as one of the account.

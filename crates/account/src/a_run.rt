@@ -22,28 +22,19 @@ pub fn first_term<D: RateDesign + Drop>(
 ) -> Option<Reading>
     ensures { IfSome result (λ reading. Ran D.RateDesign.meaning opening (record { draft = draft; again = again; design = design; amount = amount.0; held = held.now }) account.new.figures reading) }
 {
-    let Ok(()) = account.open(opening) else {
-        return None;
-    };
-    let Ok(first) = account.file(draft) else {
-        return None;
-    };
+    account.open(opening).ok()?;
+    let first = account.file(draft).ok()?;
     let _ = account.withdraw(first);
-    let Ok(second) = account.file(again) else {
-        return None;
-    };
+    let second = account.file(again).ok()?;
     let _ = account.close();
     let _ = account.close();
-    if let Err(refused) = account.force(second, design) {
-        let _ = account.withdraw(refused.0);
+    // No `?`: the filing that is handed back has to be withdrawn.
+    if let Err((filing, _)) = account.force(second, design) {
+        let _ = account.withdraw(filing);
         return None;
     }
-    let Ok(_) = account.bill(held, 0, held.len()) else {
-        return None;
-    };
-    let Ok(()) = account.cost(1, amount) else {
-        return None;
-    };
+    account.bill(held, 0, held.len()).ok()?;
+    account.cost(1, amount).ok()?;
     Some(account.reading())
 }
 

@@ -1,12 +1,11 @@
 //! From draft to rate in force.
-ghost use Rattle.std.specs.Prelude.{◌≡◌};
-ghost use Rattle.account.specs.Lawful.{Own};
+ghost use Rattle.std.specs.Prelude.{◌≡◌, None, Some, IfSome, cond};
 ghost use Rattle.account.specs.Rules.{file_rule, force_rule, is_pending, unlapsed, withdraw_rule};
 
 use crate::limits::{
     CLOSINGS_BEFORE_FORCE, CLOSINGS_TO_LAPSE, MONTHS_BETWEEN_FILINGS, MOST_FILINGS,
 };
-use crate::{Account, Draft, Figures, Filing, Pending, Refusal};
+use crate::{Account, Draft, Filing, Pending, Refusal};
 use reconciliation::{RateUnits, reconciliation_rate};
 
 impl Filing {
@@ -20,20 +19,17 @@ impl Filing {
     }
 }
 
-impl<D> Figures<D> {
+impl<D> Account<D> {
     /// Whether a filing pends that has not lapsed.
     fn unlapsed(&self) -> bool
-        requires { Own self.now.pending }
-        ensures { result ≡ unlapsed self.now.pending self.now.ledger.months }
+        ensures { result ≡ unlapsed self.now.figures.pending self.now.figures.ledger.months }
     {
-        match self.pending {
-            Some(p) => self.ledger.months < p.months + CLOSINGS_TO_LAPSE,
-            None => false,
-        }
+        let months = self.figures.ledger.months;
+        self.figures
+            .pending
+            .is_some_and(|p| months < p.months + CLOSINGS_TO_LAPSE)
     }
-}
 
-impl<D> Account<D> {
     /// Files the draft: fixes E of the last balance over its sum, and numbers the filing. A refusal hands the draft back.
     pub fn file(&mut self, draft: Draft) -> Result<Filing, (Draft, Refusal)>
         ensures { (result, self.new.figures) ≡ file_rule self.old.figures draft }
@@ -42,16 +38,16 @@ impl<D> Account<D> {
         if ledger.months % MONTHS_BETWEEN_FILINGS != 0 {
             return Err((draft, Refusal::NotQuarterEnd));
         }
-        if self.figures.unlapsed() {
+        if self.unlapsed() {
             return Err((draft, Refusal::AlreadyPending));
         }
         if ledger.filings >= MOST_FILINGS {
             return Err((draft, Refusal::FilingsFull));
         }
-        let e = match reconciliation_rate(ledger.last, draft.sum) {
-            Ok(e) => RateUnits(e.units()),
-            Err(_) => return Err((draft, Refusal::RateTooLarge)),
+        let Ok(e) = reconciliation_rate(ledger.last, draft.sum) else {
+            return Err((draft, Refusal::RateTooLarge));
         };
+        let e = RateUnits(e.units());
         let number = ledger.filings + 1;
         self.figures.ledger.filings = number;
         self.figures.pending = Some(Pending {
@@ -67,18 +63,26 @@ impl<D> Account<D> {
         })
     }
 
+    /// What the account recorded of the filing, if it is the pending one.
+    fn pending(&self, filing: &Filing) -> Option<Pending>
+        ensures is { result ≡ cond (is_pending self.now.figures filing.now self.now.figures.pending) self.now.figures.pending None }
+        ensures recorded { IfSome result (λ p. self.now.figures.pending ≡ Some p) }
+    {
+        let account = self.figures.terms.account;
+        self.figures
+            .pending
+            .filter(|p| filing.account == account && filing.number == p.number)
+    }
+
     /// Takes the pending filing into force with a new design. A refusal hands the filing back.
     pub fn force(&mut self, filing: Filing, design: D) -> Result<RateUnits, (Filing, Refusal)>
     where
         D: Drop,
         ensures { (result, self.new.figures) ≡ force_rule self.old.figures filing design }
     {
-        let Some(p) = self.figures.pending else {
+        let Some(p) = self.pending(&filing) else {
             return Err((filing, Refusal::NotPending));
         };
-        if filing.account != self.figures.terms.account || filing.number != p.number {
-            return Err((filing, Refusal::NotPending));
-        }
         let months = self.figures.ledger.months;
         if months < p.months + CLOSINGS_BEFORE_FORCE {
             return Err((filing, Refusal::TooEarly));
@@ -100,14 +104,12 @@ impl<D> Account<D> {
     pub fn withdraw(&mut self, filing: Filing) -> Result<u32, Refusal>
         ensures { (result, self.new.figures) ≡ withdraw_rule self.old.figures filing }
     {
-        let account = filing.account;
+        let is_pending = self.pending(&filing).is_some();
         let number = filing.spend();
-        match self.figures.pending {
-            Some(p) if account == self.figures.terms.account && number == p.number => {
-                self.figures.pending = None;
-                Ok(number)
-            }
-            _ => Err(Refusal::NotPending),
+        if !is_pending {
+            return Err(Refusal::NotPending);
         }
+        self.figures.pending = None;
+        Ok(number)
     }
 }

@@ -6,7 +6,7 @@ ghost use Rattle.account.specs.Rules.{balance_before, balance_checks, close_rule
 
 use crate::limits::{MOST_BALANCE, MOST_MONTHS};
 use crate::{Account, Closing, CostLine, OpenMonth, Refusal};
-use reconciliation::{AnnualRate, Cents, carrying_charge, net, tax};
+use reconciliation::{AnnualRate, Cents, annual_rate, carrying_charge, net, tax};
 
 impl OpenMonth {
     /// A month with no entry and no bill.
@@ -30,7 +30,7 @@ fn annual(value: u64) -> AnnualRate
     requires { value ≤ 2400 }
     ensures { result.value ≡ value }
 {
-    AnnualRate::new(value as i64).unwrap()
+    annual_rate(value as i64).unwrap()
 }
 
 impl<D> Account<D> {
@@ -40,7 +40,7 @@ impl<D> Account<D> {
         ensures small { unsigned_abs result.0 ≤ 9010000000000000 }
     {
         let ledger = &self.figures.ledger;
-        let costs = ledger.month.costs();
+        let costs = self.costs();
         let net = net(ledger.month.billed, self.tax_in_force());
         Cents(ledger.last.0 + costs.0 - net.0)
     }

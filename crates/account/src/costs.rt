@@ -1,54 +1,45 @@
 //! Costs of the open month.
 ghost use Rattle.std.specs.Prelude.{◌≡◌, ◌≤◌, unsigned_abs};
-ghost use Rattle.refusals.specs.Checks.{first, unless};
-ghost use Rattle.account.specs.Lawful.{Tidy};
-ghost use Rattle.account.specs.Rules.{cost_checks, cost_rule, costs_of, with_cost};
+ghost use Rattle.account.specs.Kinds.{kind_number};
+ghost use Rattle.account.specs.Rules.{cost_rule, costs_of};
 
 use crate::limits::{MOST_AMOUNT, MOST_ENTRIES};
-use crate::{Account, CostKind, CostLine, OpenMonth, Refusal};
+use crate::{Account, CostKind, Refusal};
 use reconciliation::Cents;
-
-impl OpenMonth {
-    /// Enters a cost on the line of its kind.
-    fn enter(&mut self, kind: u64, amount: Cents) -> Result<(), Refusal>
-        requires { Tidy self.old }
-        ensures rule { (result, self.new) ≡ unless (first (cost_checks self.old kind amount.0)) tt self.old (with_cost self.old kind amount.0) }
-        ensures tidy { Tidy self.new }
-    {
-        let place = CostKind::new(kind)?.number() as usize - 1;
-        if amount.0.unsigned_abs() > MOST_AMOUNT {
-            return Err(Refusal::AmountTooLarge);
-        }
-        let line = self.costs[place];
-        if line.count >= MOST_ENTRIES {
-            return Err(Refusal::LineFull);
-        }
-        self.costs[place] = CostLine {
-            count: line.count + 1,
-            total: Cents(line.total.0 + amount.0),
-        };
-        Ok(())
-    }
-
-    /// The costs of the month so far.
-    pub(crate) fn costs(&self) -> Cents
-        requires { Tidy self.now }
-        ensures value { result.0 ≡ costs_of self.now }
-        ensures small { unsigned_abs result.0 ≤ 8000000000000000 }
-    {
-        let mut total = 0;
-        for line in &self.costs {
-            total += line.total.0;
-        }
-        Cents(total)
-    }
-}
 
 impl<D> Account<D> {
     /// Adds an amount to the line of a kind, 1 to 8.
     pub fn cost(&mut self, kind: u64, amount: Cents) -> Result<(), Refusal>
         ensures { (result, self.new.figures) ≡ cost_rule self.old.figures kind amount.0 }
     {
-        self.figures.ledger.month.enter(kind, amount)
+        // A number and not a `CostKind`: a kind that is none is refused here, in its place among the checks.
+        let kind = CostKind::try_from(kind)?;
+        self.enter(kind, amount)
+    }
+
+    /// Enters a cost on the line of its kind.
+    fn enter(&mut self, kind: CostKind, amount: Cents) -> Result<(), Refusal>
+        ensures { (result, self.new.figures) ≡ cost_rule self.old.figures (kind_number kind) amount.0 }
+    {
+        if amount.0.unsigned_abs() > MOST_AMOUNT {
+            return Err(Refusal::AmountTooLarge);
+        }
+        let line = &mut self.figures.ledger.month.costs[kind.number() as usize - 1];
+        if line.count >= MOST_ENTRIES {
+            return Err(Refusal::LineFull);
+        }
+        line.count += 1;
+        line.total.0 += amount.0;
+        Ok(())
+    }
+
+    /// The costs of the open month so far.
+    pub(crate) fn costs(&self) -> Cents
+        ensures value { result.0 ≡ costs_of self.now.figures.ledger.month }
+        ensures small { unsigned_abs result.0 ≤ 8000000000000000 }
+    {
+        let lines = &self.figures.ledger.month.costs;
+        let total: i64 = lines.iter().map(|line| line.total.0).sum();
+        Cents(total)
     }
 }

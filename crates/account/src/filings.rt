@@ -19,6 +19,7 @@ pub struct Filing {
     pub(crate) e: RateUnits,
 }
 
+// With no `Drop` at all a filing let go would be an error of its type, and not a fact that fails.
 impl Drop for Filing {
     fn drop(self)
         requires { self.number ≡ 0 }
@@ -39,7 +40,7 @@ impl Draft {
         if first > MOST_PROJECTION || second > MOST_PROJECTION || third > MOST_PROJECTION {
             return Err(Refusal::Projections);
         }
-        let sum = ProjectedSum::new(first + second + third)?;
+        let sum = ProjectedSum::try_from(first + second + third)?;
         Ok(Draft { sum })
     }
 

@@ -1,6 +1,7 @@
 //! The eight kinds of cost.
 ghost use Rattle.std.specs.Prelude.{◌≡◌, MatchResult};
 ghost use Rattle.account.specs.Kinds.{kind_number, KindRange};
+ghost use Rattle.account.specs.declared.refusal.Refusal.TheVariants.{UnknownKind};
 
 use crate::Refusal;
 
@@ -17,11 +18,13 @@ pub enum CostKind {
     Other = 8,
 }
 
-impl CostKind {
+impl TryFrom<u64> for CostKind {
+    type Error = Refusal;
+
+    ghost try_from_gives = { λ number result. MatchResult result (λ kind. (kind_number kind ≡ number) × KindRange number) (λ e. (e ≡ UnknownKind) × (KindRange number → ⊥)) };
+
     /// The kind of this number; refused unless 1 to 8.
-    pub fn new(number: u64) -> Result<CostKind, Refusal>
-        ensures { MatchResult result (λ kind. (kind_number kind ≡ number) × KindRange number) (λ e. (e ≡ Refusal.UnknownKind) × (KindRange number → ⊥)) }
-    {
+    fn try_from(number: u64) -> Result<CostKind, Refusal> {
         match number {
             1 => Ok(CostKind::Startup),
             2 => Ok(CostKind::Supply),
@@ -34,11 +37,15 @@ impl CostKind {
             _ => Err(Refusal::UnknownKind),
         }
     }
+}
 
+impl CostKind {
     /// Its number, 1 to 8.
     pub fn number(self) -> u8
-        ensures { result ≡ kind_number self }
+        ensures value { result ≡ kind_number self }
+        ensures range { KindRange result }
     {
+        // The cast is of this enum alone, so no generic function can make it.
         self as u8
     }
 }

@@ -1,4 +1,5 @@
 //! The limits of an account, and its calendar. Money is in cents.
+// They stand in specs/Limits.antt too, so that no promise follows a constant that is wrong here.
 
 /// A balance is at most this in size.
 pub const MOST_BALANCE: u64 = 10_000_000_000_000;

@@ -6,7 +6,7 @@ ghost use Rattle.account.specs.Rules.{open_rule, opened, starting, no_opening};
 
 use crate::limits::MOST_BALANCE;
 use crate::{Account, Figures, Ledger, OpenMonth, Rate, Refusal, Terms};
-use reconciliation::{AnnualRate, Cents, RateUnits, TaxRate};
+use reconciliation::{Cents, RateUnits, annual_rate, tax_rate};
 
 /// What an account is opened with: its number, its last balance, the tax and the annual interest rates in ten-thousandths, and the
 /// design in force.
@@ -72,14 +72,15 @@ impl<D> Account<D> {
             over,
             design,
         } = opening;
-        let tax = TaxRate::new(tax)?.value();
-        let under = AnnualRate::new(under)?.value();
-        let over = AnnualRate::new(over)?.value();
-        if account >= 4_294_967_296 || balance.0.unsigned_abs() > MOST_BALANCE {
+        let tax = tax_rate(tax)?.value();
+        let under = annual_rate(under)?.value();
+        let over = annual_rate(over)?.value();
+        let number = u32::try_from(account).map_err(|_| Refusal::NumberOrBalance)?;
+        if balance.0.unsigned_abs() > MOST_BALANCE {
             return Err(Refusal::NumberOrBalance);
         }
         let terms = Terms {
-            account: account as u32,
+            account: number,
             tax,
             under,
             over,

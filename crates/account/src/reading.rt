@@ -18,14 +18,10 @@ impl<D> Account<D> {
     fn told(&self) -> Reading
         ensures { result ≡ reading_of self.now.figures }
     {
-        let pending = match self.figures.pending {
-            Some(p) => Some(p.number),
-            None => None,
-        };
         Reading {
             months: self.figures.ledger.months,
             e: self.figures.rate.e,
-            pending,
+            pending: self.figures.pending.map(|p| p.number),
             balance: self.balance(),
         }
     }

@@ -58,6 +58,7 @@ impl Refusal {
     pub fn number(self) -> u8
         ensures { result ≡ number_of self }
     {
+        // The cast is of this enum alone, so no generic function can make it.
         self as u8
     }
 }
@@ -68,12 +69,13 @@ impl BillRefusal {
         ensures { result ≡ bill_number self }
     {
         match self {
-            BillRefusal::OfPeriod(refusal) => refusal.refusal.number(),
+            BillRefusal::OfPeriod(refusal) => refusal.number(),
             BillRefusal::OfAccount(refusal) => refusal.number(),
         }
     }
 }
 
+// By hand: a `From` that is derived has no contract.
 impl From<reconciliation::Refusal> for Refusal {
     ghost from_gives = { λ e r. r ≡ of_figure e };
 
@@ -86,6 +88,7 @@ impl From<reconciliation::Refusal> for Refusal {
     }
 }
 
+// By hand: a `From` that is derived has no contract.
 impl From<PeriodRefusal> for BillRefusal {
     ghost from_gives = { λ e r. r ≡ OfPeriod e };
 

@@ -1,4 +1,4 @@
-use Rattle.account.proofs.FirstRun.{Stages, answered, ran}
+use Rattle.account.proofs.FirstRun.{Stages, accepted_with, answered, ran}
 use Rattle.account.proofs.a_run.first_term.Goals as goal
 
 pub returns : goal.returns
@@ -14,26 +14,26 @@ returns g c =
       forced = c.force.new.self.figures;
       billed = c.bill.new.self.figures;
       costed = c.cost.new.self.figures;
-      first = c.in-Ok-file.first;
+      first = c.in_ok-first.first;
       number = c.withdraw.result;
-      second = c.in-Ok-file-2.second;
+      second = c.in_ok-second.second;
       closing = c.close.result;
       reclosing = c.close-2.result;
-      e = c.in_default-force.field-0;
-      bill = c.in-Ok-bill.field-0;
+      e = c.in_default.field-0;
+      bill = c.in_ok-ok-2.field-0;
     } in
     ran g.D.RateDesign.meaning c.args.opening
     (record { draft = c.args.draft; again = c.args.again; design = c.args.design; amount = c.args.amount.0; held = c.args.held.now })
     stages c.reading.result
     (record {
-      opens = answered c.in-Ok.is c.open.ensures;
-      files = answered c.in-Ok-file.is c.file.ensures;
+      opens = accepted_with c.in_ok-ok.ensures.value c.open.ensures;
+      files = accepted_with c.in_ok-first.ensures.value c.file.ensures;
       withdraws = c.withdraw.ensures;
-      refiles = answered c.in-Ok-file-2.is c.file-2.ensures;
+      refiles = accepted_with c.in_ok-second.ensures.value c.file-2.ensures;
       closes = c.close.ensures;
       recloses = c.close-2.ensures;
-      forces = answered c.in_default-force.is c.force.ensures;
-      bills = answered c.in-Ok-bill.is c.bill.ensures;
-      costs = answered c.in-Ok-cost.is c.cost.ensures;
+      forces = answered c.in_default.is c.force.ensures;
+      bills = accepted_with c.in_ok-ok-2.ensures.value c.bill.ensures;
+      costs = accepted_with c.in_ok-ok-3.ensures.value c.cost.ensures;
     })
     c.reading.ensures.laws

@@ -1,6 +1,5 @@
-use Rattle.std.proofs.Common.{refl}
 use Rattle.account.proofs.ByHand.{by_hand}
 use Rattle.account.proofs.a_run.worked_months.Goals as goal
 
-pub returns : goal.returns
-returns c = record { worked = by_hand; months = refl }
+pub returns-clause-worked : goal.returns-clause-worked
+returns-clause-worked c = by_hand

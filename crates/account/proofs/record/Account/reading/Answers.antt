@@ -3,10 +3,7 @@ use Rattle.account.specs.Laws.{EveryRun}
 use Rattle.account.proofs.Theorem.{every_run}
 use Rattle.account.proofs.record.Account.reading.Goals as goal
 
-pub returns : goal.returns
-returns g c =
+pub returns-clause-laws : goal.returns-clause-laws
+returns-clause-laws g c =
     let f = c.args.self.now.figures in
-    record {
-      told = c.told.ensures;
-      laws = subst (EveryRun g.D.RateDesign.meaning f) (sym c.told.ensures) (every_run g.D.RateDesign.meaning g.met.D.RateDesign.sound f);
-    }
+    subst (EveryRun g.D.RateDesign.meaning f) (sym c.told.ensures) (every_run g.D.RateDesign.meaning g.met.D.RateDesign.sound f)
