@@ -1,4 +1,5 @@
 pub mod Comparisons
 pub mod Months
+pub mod Pages
 pub mod Rates
 pub mod Supply

@@ -1,5 +1,5 @@
 -- The lines of a supply schedule, each from the figures that the sheet prints above it.
-use Rattle.std.specs.Prelude.{List, [], ◌∷◌, ℤ, pos, ◌+ℤ◌, Some, None, Option}
+use Rattle.std.specs.Prelude.{List, [], ◌∷◌, ◌++◌, ℤ, pos, ◌+ℤ◌, Some, None, Option}
 use Rattle.supply.specs.declared.blocks.Block.{Block}
 use Rattle.supply.specs.declared.tranches.Tranche.{Tranche}
 use Rattle.supply.specs.declared.terms.Terms.{Terms}
@@ -73,3 +73,23 @@ terms_of page rest bought = record {
 abbrev pub through_line : SupplyPage → Rest → Blocks → List Tranche → List Block → Comparison
 through_line page rest bought tranches blocks =
     line WorkedThrough DollarsPerMwh page.cost_component.price (lines_of tranches blocks (terms_of page rest bought)).cost_component
+
+-- The lines of the rest and of the cost component; where the rest is bought in blocks, the lines of the blocks before them, and the cost
+-- component worked straight down after them.
+abbrev pub bought_lines : SupplyPage → Rest → Supplied → List Comparison
+bought_lines page rest (Hourly price) = rest_lines page rest ++ component_line page ∷ []
+bought_lines page rest (InBlocks bought) =
+    block_lines bought bought.blocks.now
+    ++ rest_lines page rest
+    ++ component_line page
+    ∷ through_line page rest bought page.tranches.now bought.blocks.now
+    ∷ []
+
+-- What follows the lines of the tranches: the cost component alone where they supply the whole load.
+abbrev pub lines_below : SupplyPage → Option Rest → List Comparison
+lines_below page (Some rest) = bought_lines page rest rest.supplied
+lines_below page None = component_line page ∷ []
+
+-- The lines of a schedule, in the order of the sheet.
+abbrev pub supply_lines : SupplyPage → List Comparison
+supply_lines page = tranche_lines page page.tranches.now ++ lines_below page page.rest

@@ -1,6 +1,6 @@
 //! A line of a sheet beside what the rules give for it.
 ghost use Rattle.std.specs.Prelude.{◌≡◌};
-ghost use Rattle.schedules.specs.Comparisons.{difference_of, differs, tally_of};
+ghost use Rattle.schedules.specs.Comparisons.{difference_of, differs, line, tally_of};
 
 use crate::line_name::LineName;
 
@@ -31,6 +31,18 @@ pub struct Tally {
 }
 
 impl Comparison {
+    /// The line of this name and unit, the sheet's figure beside the worked one.
+    pub fn new(name: LineName, unit: Unit, sheet: i64, worked: i64) -> Comparison
+        ensures { result ≡ line name unit sheet worked }
+    {
+        Comparison {
+            name,
+            unit,
+            sheet,
+            worked,
+        }
+    }
+
     /// The worked figure less the sheet's.
     pub fn difference(&self) -> i128
         ensures { result ≡ difference_of self.now }
@@ -51,15 +63,9 @@ impl Tally {
     pub fn of(comparisons: &[Comparison]) -> Tally
         ensures { result ≡ tally_of comparisons.now }
     {
-        let mut differing = 0;
-        for comparison in comparisons {
-            if comparison.differs() {
-                differing += 1;
-            }
-        }
         Tally {
             lines: comparisons.len(),
-            differing,
+            differing: comparisons.iter().filter(|line| line.differs()).count(),
         }
     }
 }

@@ -20,7 +20,7 @@ const SEASONS: Seasons = Seasons {
 };
 
 /// Auctions of May and October 2010, January and March 2011, and January and March 2012.
-pub const TRANCHES: [Tranche; 6] = [
+const TRANCHES: [Tranche; 6] = [
     Tranche {
         count: 4,
         price: 6_855,
@@ -48,7 +48,7 @@ pub const TRANCHES: [Tranche; 6] = [
 ];
 
 /// The block of 48 months, and those of May and October 2011, on and off peak.
-pub const BLOCKS: [Block; 5] = [
+const BLOCKS: [Block; 5] = [
     Block {
         mwh: 109_151,
         price: 5_977,
@@ -73,6 +73,7 @@ pub const BLOCKS: [Block; 5] = [
 
 const SUPPLY: SupplyPage = SupplyPage {
     seasons: SEASONS,
+    tranches: &TRANCHES,
     tranche_average: Printed {
         name: LineName::AverageFixedPriceTranche,
         price: 6_523,
@@ -84,6 +85,7 @@ const SUPPLY: SupplyPage = SupplyPage {
     },
     rest: Some(Rest {
         supplied: Supplied::InBlocks(Blocks {
+            blocks: &BLOCKS,
             average: Printed {
                 name: LineName::AverageBlockAndSpot,
                 price: 5_528,
@@ -117,6 +119,7 @@ const SUPPLY: SupplyPage = SupplyPage {
 
 /// The residential class.
 pub const RESIDENTIAL: Sheet = Sheet {
+    title: "Metropolitan Edison, residential, September to November 2012",
     tax: 590,
     price: Some(PricePage {
         supply: SUPPLY,

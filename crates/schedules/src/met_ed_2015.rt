@@ -20,7 +20,7 @@ const SEASONS: Seasons = Seasons {
 };
 
 /// The commercial class's auctions of October 2014 (2), January (2) and April 2015 (3).
-pub const COMMERCIAL_TRANCHES: [Tranche; 7] = [
+const COMMERCIAL_TRANCHES: [Tranche; 7] = [
     Tranche {
         count: 2,
         price: 8_656,
@@ -52,7 +52,7 @@ pub const COMMERCIAL_TRANCHES: [Tranche; 7] = [
 ];
 
 /// The residential class's auctions of October 2014, January and April 2015, two each.
-pub const RESIDENTIAL_TRANCHES: [Tranche; 6] = [
+const RESIDENTIAL_TRANCHES: [Tranche; 6] = [
     Tranche {
         count: 4,
         price: 7_789,
@@ -81,6 +81,7 @@ pub const RESIDENTIAL_TRANCHES: [Tranche; 6] = [
 
 const COMMERCIAL_SUPPLY: SupplyPage = SupplyPage {
     seasons: SEASONS,
+    tranches: &COMMERCIAL_TRANCHES,
     tranche_average: Printed {
         name: LineName::AverageFixedPriceTranche,
         price: 7_302,
@@ -99,6 +100,7 @@ const COMMERCIAL_SUPPLY: SupplyPage = SupplyPage {
 
 const RESIDENTIAL_SUPPLY: SupplyPage = SupplyPage {
     seasons: SEASONS,
+    tranches: &RESIDENTIAL_TRANCHES,
     tranche_average: Printed {
         name: LineName::AverageFixedPriceTranche,
         price: 6_977,
@@ -128,6 +130,7 @@ const RESIDENTIAL_SUPPLY: SupplyPage = SupplyPage {
 
 /// The commercial class.
 pub const COMMERCIAL: Sheet = Sheet {
+    title: "Metropolitan Edison, commercial, June to August 2015",
     tax: 590,
     price: Some(PricePage {
         supply: COMMERCIAL_SUPPLY,
@@ -197,6 +200,7 @@ pub const COMMERCIAL: Sheet = Sheet {
 
 /// The residential class.
 pub const RESIDENTIAL: Sheet = Sheet {
+    title: "Metropolitan Edison, residential, June to August 2015",
     tax: 590,
     price: Some(PricePage {
         supply: RESIDENTIAL_SUPPLY,
@@ -266,6 +270,7 @@ pub const RESIDENTIAL: Sheet = Sheet {
 
 /// The hourly class.
 pub const HOURLY: Sheet = Sheet {
+    title: "Metropolitan Edison, hourly, June to August 2015",
     tax: 590,
     price: None,
     reconciliation: ReconciliationPage {

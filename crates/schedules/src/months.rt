@@ -7,7 +7,9 @@ ghost use Rattle.schedules.specs.Months.{in_cents, month_lines, month_worked};
 use crate::comparison::{Comparison, Unit};
 use crate::line_name::LineName;
 use crate::refused::Refused;
-use reconciliation::{AnnualRate, Cents, TaxRate, carrying_charge, net, tax};
+use reconciliation::{
+    AnnualRate, Cents, TaxRate, annual_rate, carrying_charge, net, tax, tax_rate,
+};
 use rounding::round_money;
 
 /// The months that the sheets print.
@@ -67,9 +69,9 @@ impl Rates {
         ensures { IfOk result (λ rates. (pos rates.tax.value ≡ tax) × (rates.under.value ≡ 600) × (rates.over.value ≡ 800)) }
     {
         Ok(Rates {
-            tax: TaxRate::new(tax)?,
-            under: AnnualRate::new(600)?,
-            over: AnnualRate::new(800)?,
+            tax: tax_rate(tax)?,
+            under: annual_rate(600)?,
+            over: annual_rate(800)?,
         })
     }
 }
@@ -115,12 +117,7 @@ impl Month {
 fn line(name: LineName, sheet: i32, worked: i64) -> Comparison
     ensures { result ≡ line name Unit.Dollars sheet worked }
 {
-    Comparison {
-        name,
-        unit: Unit::Dollars,
-        sheet: sheet as i64,
-        worked,
-    }
+    Comparison::new(name, Unit::Dollars, i64::from(sheet), worked)
 }
 
 /// Whole dollars in cents.

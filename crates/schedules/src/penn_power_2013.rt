@@ -5,6 +5,7 @@ use crate::sheet::Sheet;
 
 /// The hourly class, which bills a quarter of E.
 pub const HOURLY: Sheet = Sheet {
+    title: "Penn Power, hourly, December 2013 to February 2014",
     tax: 440,
     price: None,
     reconciliation: ReconciliationPage {

@@ -73,28 +73,20 @@ impl RatePage {
     }
 }
 
+// A name for each unit, said once for the many lines that have it.
+
 /// A line in dollars per kWh.
 pub fn per_kwh(name: LineName, sheet: i64, worked: i64) -> Comparison
     ensures { result ≡ line name Unit.DollarsPerKwh sheet worked }
 {
-    Comparison {
-        name,
-        unit: Unit::DollarsPerKwh,
-        sheet,
-        worked,
-    }
+    Comparison::new(name, Unit::DollarsPerKwh, sheet, worked)
 }
 
 /// The line of the gross-up.
 pub fn gross_up_line(name: LineName, sheet: i64, worked: i64) -> Comparison
     ensures { result ≡ line name Unit.Factor sheet worked }
 {
-    Comparison {
-        name,
-        unit: Unit::Factor,
-        sheet,
-        worked,
-    }
+    Comparison::new(name, Unit::Factor, sheet, worked)
 }
 
 /// 1 ÷ (1 − T) in millionths.
@@ -114,6 +106,6 @@ pub fn with_tax(current: i64, e: i64, tax: TaxRate) -> Result<i64, Refused>
         adm: 0,
         nits: 0,
     })?;
-    let e = ReconciliationRate::new(e)?;
+    let e = ReconciliationRate::try_from(e)?;
     Ok(flat.rate(e, tax).0)
 }

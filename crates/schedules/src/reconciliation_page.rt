@@ -1,5 +1,6 @@
 //! The page of the reconciliation rate E.
 ghost use Rattle.std.specs.Prelude.{◌≡◌, IfOk};
+ghost use Rattle.schedules.specs.Pages.{reconciliation_lines};
 ghost use Rattle.schedules.specs.Rates.{e_lines, e_worked, sales_line};
 
 use crate::comparison::{Comparison, Unit};
@@ -8,6 +9,7 @@ use crate::months::cents;
 use crate::rate_page::{gross_up, gross_up_line, per_kwh, with_tax};
 use crate::refused::Refused;
 use reconciliation::{ProjectedSum, TaxRate, reconciliation_rate};
+use std::alloc::Global;
 
 /// The figures of a page as printed, rates in rate units and the gross-up in millionths.
 #[derive(Clone, Copy)]
@@ -40,13 +42,25 @@ impl ReconciliationPage {
     pub fn worked(&self, tax: TaxRate) -> Result<EWorked, Refused>
         ensures { IfOk result (λ lines. lines ≡ e_worked self.now tax.value) }
     {
-        let projected = ProjectedSum::new(self.projected as u64)?;
+        let projected = ProjectedSum::try_from(self.projected as u64)?;
         let e = reconciliation_rate(cents(self.balance), projected)?;
         Ok(EWorked {
             e: e.units(),
             gross_up: gross_up(tax),
             taxed: with_tax(0, self.billed, tax)?,
         })
+    }
+
+    /// The lines of the page, in the order of the sheet.
+    pub fn lines(&self, alloc: Global, tax: TaxRate) -> anyhow::Result<Vec<Comparison>>
+        ensures { IfOk result (λ lines. lines.items ≡ reconciliation_lines self.now tax.value) }
+    {
+        let mut lines = Vec::new(alloc);
+        if let Some(sales) = self.compare_sales() {
+            lines.push(sales)?;
+        }
+        lines.extend_from_slice(&self.compare(tax)?)?;
+        Ok(lines)
     }
 
     /// The lines of the rates.
@@ -66,11 +80,11 @@ impl ReconciliationPage {
         ensures { result ≡ sales_line self.now.projected self.now.sales }
     {
         let [first, second, third] = self.sales?;
-        Some(Comparison {
-            name: LineName::ProjectedSales,
-            unit: Unit::Kwh,
-            sheet: self.projected as i64,
-            worked: first as i64 + second as i64 + third as i64,
-        })
+        Some(Comparison::new(
+            LineName::ProjectedSales,
+            Unit::Kwh,
+            self.projected as i64,
+            first as i64 + second as i64 + third as i64,
+        ))
     }
 }

@@ -1,42 +1,13 @@
 //! What stops the program where the engine refuses a figure of a sheet.
-use std::error::Error;
-use std::fmt;
+use thiserror::Error;
 
-/// A refusal of the engine, by its number.
-#[derive(Clone, Copy, Debug)]
-pub struct Refused {
-    number: u8,
+/// A refusal of the engine, told by its number.
+#[derive(Clone, Copy, Debug, Error)]
+pub enum Refused {
+    #[error("schedules: refused {}", .0.number())]
+    Supply(#[from] supply::Refusal),
+    #[error("schedules: refused {}", .0.number())]
+    Design(#[from] designs::Refusal),
+    #[error("schedules: refused {}", .0.number())]
+    Reconciliation(#[from] reconciliation::Refusal),
 }
-
-impl From<supply::Refusal> for Refused {
-    fn from(refusal: supply::Refusal) -> Refused {
-        Refused {
-            number: refusal.number(),
-        }
-    }
-}
-
-impl From<designs::Refusal> for Refused {
-    fn from(refusal: designs::Refusal) -> Refused {
-        Refused {
-            number: refusal.number(),
-        }
-    }
-}
-
-impl From<reconciliation::Refusal> for Refused {
-    fn from(refusal: reconciliation::Refusal) -> Refused {
-        Refused {
-            number: refusal.number(),
-        }
-    }
-}
-
-impl fmt::Display for Refused {
-    fn fmt<W: fmt::Write>(&self, f: &mut fmt::Formatter<W>) -> fmt::Result {
-        let number = self.number;
-        write!(f, "schedules: refused {number}")
-    }
-}
-
-impl Error for Refused {}

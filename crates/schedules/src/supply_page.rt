@@ -1,10 +1,11 @@
 //! The upper part of the page of the rate: the supply schedule. What is promised of its lines is what they are where no figure is refused.
 ghost use Rattle.std.specs.Prelude.{◌≡◌, IfOk};
-ghost use Rattle.schedules.specs.Supply.{beside, block_lines, component_line, fixed_part, rest_lines, through_line, tranche_lines, variable_part};
+ghost use Rattle.schedules.specs.Supply.{beside, block_lines, component_line, fixed_part, rest_lines, supply_lines, through_line, tranche_lines, variable_part};
 
 use crate::comparison::{Comparison, Unit};
 use crate::line_name::LineName;
 use crate::refused::Refused;
+use std::alloc::Global;
 use supply::{Block, Seasons, Terms, Tranche};
 
 /// A line as printed: its name and its figure, in cents per MWh.
@@ -18,6 +19,7 @@ pub struct Printed {
 #[derive(Clone, Copy)]
 pub struct SupplyPage {
     pub seasons: Seasons,
+    pub tranches: &'static [Tranche],
     pub tranche_average: Printed,
     /// The share of the load that the tranches supply.
     pub tranche_share: i64,
@@ -48,6 +50,7 @@ pub enum Supplied {
 /// What is bought in blocks, and the hour's price beside it.
 #[derive(Clone, Copy)]
 pub struct Blocks {
+    pub blocks: &'static [Block],
     pub average: Printed,
     /// The share that is bought in blocks.
     pub share: i64,
@@ -61,12 +64,7 @@ impl Printed {
     fn beside(self, worked: i64) -> Comparison
         ensures { result ≡ beside self worked }
     {
-        Comparison {
-            name: self.name,
-            unit: Unit::DollarsPerMwh,
-            sheet: self.price,
-            worked,
-        }
+        Comparison::new(self.name, Unit::DollarsPerMwh, self.price, worked)
     }
 }
 
@@ -84,10 +82,10 @@ impl Supplied {
 
 impl Blocks {
     /// The average price of the blocks, the fixed part and the variable part.
-    pub fn compare(&self, blocks: &[Block]) -> Result<[Comparison; 3], Refused>
-        ensures { IfOk result (λ lines. lines ≡ block_lines self.now blocks.now) }
+    pub fn compare(&self) -> Result<[Comparison; 3], Refused>
+        ensures { IfOk result (λ lines. lines ≡ block_lines self.now self.now.blocks.now) }
     {
-        let average = supply::block_average(blocks)?;
+        let average = supply::block_average(self.blocks)?;
         let fixed = supply::share_of(self.average.price, self.share)?;
         let variable = supply::rest_of(self.hourly_price, self.share)?;
         Ok([
@@ -99,11 +97,36 @@ impl Blocks {
 }
 
 impl SupplyPage {
-    /// The average price of the tranches, and their part.
-    pub fn compare_tranches(&self, tranches: &[Tranche]) -> Result<[Comparison; 2], Refused>
-        ensures { IfOk result (λ lines. lines ≡ tranche_lines self.now tranches.now) }
+    /// The lines of the schedule, in the order of the sheet.
+    pub fn lines(&self, alloc: Global) -> anyhow::Result<Vec<Comparison>>
+        ensures { IfOk result (λ lines. lines.items ≡ supply_lines self.now) }
     {
-        let average = supply::tranche_average(tranches, self.seasons)?;
+        let mut lines = Vec::from_slice(alloc, &self.compare_tranches()?)?;
+        let component = self.compare_component()?;
+        let Some(rest) = &self.rest else {
+            lines.push(component)?;
+            return Ok(lines);
+        };
+        match &rest.supplied {
+            Supplied::Hourly(_) => {
+                lines.extend_from_slice(&self.compare_rest(rest)?)?;
+                lines.push(component)?;
+            }
+            Supplied::InBlocks(bought) => {
+                lines.extend_from_slice(&bought.compare()?)?;
+                lines.extend_from_slice(&self.compare_rest(rest)?)?;
+                lines.push(component)?;
+                lines.push(self.compare_through(rest, bought)?)?;
+            }
+        }
+        Ok(lines)
+    }
+
+    /// The average price of the tranches, and their part.
+    pub fn compare_tranches(&self) -> Result<[Comparison; 2], Refused>
+        ensures { IfOk result (λ lines. lines ≡ tranche_lines self.now self.now.tranches.now) }
+    {
+        let average = supply::tranche_average(self.tranches, self.seasons)?;
         let part = supply::share_of(self.tranche_average.price, self.tranche_share)?;
         Ok([
             self.tranche_average.beside(average),
@@ -125,23 +148,14 @@ impl SupplyPage {
     pub fn compare_component(&self) -> Result<Comparison, Refused>
         ensures { IfOk result (λ line. line ≡ component_line self.now) }
     {
-        let block_part = match &self.rest {
-            Some(rest) => rest.part.price,
-            None => 0,
-        };
+        let block_part = self.rest.map_or(0, |rest| rest.part.price);
         let component = supply::cost_component(self.tranche_part.price, block_part)?;
         Ok(self.cost_component.beside(component))
     }
 
     /// The cost component from the auction results straight down, where the rest is bought in blocks.
-    pub fn compare_through(
-        &self,
-        rest: &Rest,
-        bought: &Blocks,
-        tranches: &[Tranche],
-        blocks: &[Block],
-    ) -> Result<Comparison, Refused>
-        ensures { IfOk result (λ line. line ≡ through_line self.now rest.now bought.now tranches.now blocks.now) }
+    pub fn compare_through(&self, rest: &Rest, bought: &Blocks) -> Result<Comparison, Refused>
+        ensures { IfOk result (λ line. line ≡ through_line self.now rest.now bought.now self.now.tranches.now bought.now.blocks.now) }
     {
         let terms = Terms {
             seasons: self.seasons,
@@ -150,7 +164,7 @@ impl SupplyPage {
             variable_price: bought.hourly_price,
             adders: rest.adders,
         };
-        let lines = supply::supply_schedule(tranches, blocks, &terms)?;
+        let lines = supply::supply_schedule(self.tranches, bought.blocks, &terms)?;
         let printed = Printed {
             name: LineName::WorkedThrough,
             price: self.cost_component.price,

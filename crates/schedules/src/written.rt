@@ -1,4 +1,6 @@
 //! How a figure is written.
+ghost use Rattle.std.specs.Prelude.{◌≤◌};
+
 use crate::comparison::Unit;
 use std::fmt;
 
@@ -16,32 +18,30 @@ impl fmt::Display for Figure {
             write!(f, "-")?;
         }
         match self.unit {
-            Unit::Dollars | Unit::Kwh => grouped(size, f),
-            Unit::DollarsPerMwh => {
-                grouped(size / 100, f)?;
-                let rest = size % 100;
-                write!(f, ".{rest:02}")
-            }
-            Unit::DollarsPerKwh => {
-                grouped(size / 100_000, f)?;
-                let rest = size % 100_000;
-                write!(f, ".{rest:05}")
-            }
-            Unit::Factor => {
-                grouped(size / 1_000_000, f)?;
-                let rest = size % 1_000_000;
-                write!(f, ".{rest:06}")
-            }
+            Unit::Dollars | Unit::Kwh => grouped(f, size),
+            Unit::DollarsPerMwh => decimal(f, size, 2),
+            Unit::DollarsPerKwh => decimal(f, size, 5),
+            Unit::Factor => decimal(f, size, 6),
         }
     }
 }
 
+/// A number with its last `places` digits after the decimal point, and a comma before each three digits of the rest.
+fn decimal<W: fmt::Write>(f: &mut fmt::Formatter<W>, number: u128, places: u32) -> fmt::Result
+    requires { places ≤ 38 }
+{
+    let scale = 10u128.pow(places);
+    let width = places as usize;
+    grouped(f, number / scale)?;
+    write!(f, ".{:0width$}", number % scale)
+}
+
 /// A whole number with a comma before each three digits.
-fn grouped<W: fmt::Write>(number: u128, f: &mut fmt::Formatter<W>) -> fmt::Result {
+fn grouped<W: fmt::Write>(f: &mut fmt::Formatter<W>, number: u128) -> fmt::Result {
     if number < 1_000 {
         return write!(f, "{number}");
     }
-    grouped(number / 1_000, f)?;
+    grouped(f, number / 1_000)?;
     let rest = number % 1_000;
     write!(f, ",{rest:03}")
 }

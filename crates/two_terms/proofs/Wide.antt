@@ -12,13 +12,16 @@ in128 z = to_z w128 (of_z w128 z)
 abbrev pub base : ℤ → ℤ
 base charge = in128 (pos 10000 *ℤ in128 charge)
 
--- a charge of 64 bits of quantity at a rate up to 310,000
-pub charge_small : (charge rate : ℤ) (quantity : ℕ) → quantity ≤ 18446744073709551615 → nat_abs rate ≤ 310000 → nat_abs charge ≡ quantity * nat_abs rate → nat_abs charge ≤ 6000000000000000000000000
-charge_small charge rate quantity low high size = omega (arith, mul-le quantity (nat_abs rate) 18446744073709551615 310000 low high)
-
 -- a number as the code keeps it in 64 bits
 abbrev pub in64 : ℤ → ℤ
 in64 z = to_z w64 (of_z w64 z)
+
+-- a charge of 64 bits of quantity at a rate up to 310,000
+pub charge_small : (charge rate : ℤ) (quantity : ℕ) → quantity ≤ 18446744073709551615 → nat_abs rate ≤ 310000
+    → nat_abs charge ≡ quantity * nat_abs (in64 rate) → nat_abs charge ≤ 6000000000000000000000000
+charge_small charge rate quantity low high size =
+    let kept : nat_abs (in64 rate) ≤ 310000 = omega (arith, ints) in
+    omega (arith, mul-le quantity (nat_abs (in64 rate)) 18446744073709551615 310000 low kept)
 
 -- 10,000,000 times an amount of 64 bits
 pub scaled_small : (scaled amount : ℤ) → nat_abs scaled ≡ 10000000 * nat_abs (in64 amount) → nat_abs scaled ≤ 92233720368547758080000000

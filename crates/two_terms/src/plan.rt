@@ -1,5 +1,6 @@
 //! The held hours, and what comes in each of the eight months.
-use crate::month::Month;
+use crate::run::{Month, Part};
+use account::CostKind;
 use designs::Hour;
 use reconciliation::{Cents, RateUnits};
 
@@ -34,51 +35,51 @@ pub const HELD: [Hour; 6] = [
 /// What comes in the eight months.
 pub const MONTHS: [Month; 8] = [
     Month {
-        kind: 2,
+        kind: CostKind::Supply,
         amount: Cents(3_800_000),
-        first: (0, 3),
-        second: (3, 3),
+        first: Part { start: 0, count: 3 },
+        second: Part { start: 3, count: 3 },
     },
     Month {
-        kind: 2,
+        kind: CostKind::Supply,
         amount: Cents(4_050_000),
-        first: (0, 2),
-        second: (3, 3),
+        first: Part { start: 0, count: 2 },
+        second: Part { start: 3, count: 3 },
     },
     Month {
-        kind: 4,
+        kind: CostKind::Pjm,
         amount: Cents(3_999_999),
-        first: (1, 4),
-        second: (4, 2),
+        first: Part { start: 1, count: 4 },
+        second: Part { start: 4, count: 2 },
     },
     Month {
-        kind: 2,
+        kind: CostKind::Supply,
         amount: Cents(4_100_001),
-        first: (0, 3),
-        second: (3, 3),
+        first: Part { start: 0, count: 3 },
+        second: Part { start: 3, count: 3 },
     },
     Month {
-        kind: 5,
+        kind: CostKind::Transmission,
         amount: Cents(-25_000),
-        first: (0, 6),
-        second: (5, 1),
+        first: Part { start: 0, count: 6 },
+        second: Part { start: 5, count: 1 },
     },
     Month {
-        kind: 2,
+        kind: CostKind::Supply,
         amount: Cents(3_700_000),
-        first: (2, 3),
-        second: (0, 3),
+        first: Part { start: 2, count: 3 },
+        second: Part { start: 0, count: 3 },
     },
     Month {
-        kind: 8,
+        kind: CostKind::Other,
         amount: Cents(3_650_000),
-        first: (0, 1),
-        second: (1, 5),
+        first: Part { start: 0, count: 1 },
+        second: Part { start: 1, count: 5 },
     },
     Month {
-        kind: 2,
+        kind: CostKind::Supply,
         amount: Cents(3_900_000),
-        first: (3, 2),
-        second: (0, 4),
+        first: Part { start: 3, count: 2 },
+        second: Part { start: 0, count: 4 },
     },
 ];

@@ -1,50 +1,15 @@
 //! What stops the program where the engine refuses a call.
-use std::error::Error;
-use std::fmt;
+use thiserror::Error;
 
-/// A refusal of the engine, by its number.
-#[derive(Clone, Copy, Debug)]
-pub struct Refused {
-    number: u8,
+/// A refusal of the engine, told by its number.
+#[derive(Clone, Copy, Debug, Error)]
+pub enum Refused {
+    #[error("two_terms: refused {}", .0.number())]
+    Account(#[from] account::Refusal),
+    #[error("two_terms: refused {}", .0.number())]
+    Bill(#[from] account::BillRefusal),
+    #[error("two_terms: refused {}", .0.number())]
+    Design(#[from] designs::Refusal),
+    #[error("two_terms: refused {}", .0.number())]
+    Reconciliation(#[from] reconciliation::Refusal),
 }
-
-impl From<account::Refusal> for Refused {
-    fn from(refusal: account::Refusal) -> Refused {
-        Refused {
-            number: refusal.number(),
-        }
-    }
-}
-
-impl From<account::BillRefusal> for Refused {
-    fn from(refusal: account::BillRefusal) -> Refused {
-        Refused {
-            number: refusal.number(),
-        }
-    }
-}
-
-impl From<designs::Refusal> for Refused {
-    fn from(refusal: designs::Refusal) -> Refused {
-        Refused {
-            number: refusal.number(),
-        }
-    }
-}
-
-impl From<reconciliation::Refusal> for Refused {
-    fn from(refusal: reconciliation::Refusal) -> Refused {
-        Refused {
-            number: refusal.number(),
-        }
-    }
-}
-
-impl fmt::Display for Refused {
-    fn fmt<W: fmt::Write>(&self, f: &mut fmt::Formatter<W>) -> fmt::Result {
-        let number = self.number;
-        write!(f, "two_terms: refused {number}")
-    }
-}
-
-impl Error for Refused {}

@@ -1,4 +1,6 @@
 //! How figures are written: money with two decimals, rates with five, mils with one or four.
+ghost use Rattle.std.specs.Prelude.{◌≤◌};
+
 use reconciliation::{Cents, RateUnits};
 use std::fmt;
 
@@ -20,40 +22,43 @@ pub struct FineMils(pub u128);
 
 impl fmt::Display for Money {
     fn fmt<W: fmt::Write>(&self, f: &mut fmt::Formatter<W>) -> fmt::Result {
-        if self.0.0 < 0 {
-            write!(f, "-")?;
-        }
-        let size = self.0.0.unsigned_abs();
-        let whole = size / 100;
-        let rest = size % 100;
-        write!(f, "{whole}.{rest:02}")
+        signed(f, self.0.0, 2)
     }
 }
 
 impl fmt::Display for PerKwh {
     fn fmt<W: fmt::Write>(&self, f: &mut fmt::Formatter<W>) -> fmt::Result {
-        if self.0.0 < 0 {
-            write!(f, "-")?;
-        }
-        let size = self.0.0.unsigned_abs();
-        let whole = size / 100_000;
-        let rest = size % 100_000;
-        write!(f, "{whole}.{rest:05}")
+        signed(f, self.0.0, 5)
     }
 }
 
 impl fmt::Display for HalfMils {
     fn fmt<W: fmt::Write>(&self, f: &mut fmt::Formatter<W>) -> fmt::Result {
-        let whole = self.0 / 2;
-        let rest = self.0 % 2 * 5;
-        write!(f, "{whole}.{rest}")
+        write!(f, "{}.{}", self.0 / 2, self.0 % 2 * 5)
     }
 }
 
 impl fmt::Display for FineMils {
     fn fmt<W: fmt::Write>(&self, f: &mut fmt::Formatter<W>) -> fmt::Result {
-        let whole = self.0 / 10_000;
-        let rest = self.0 % 10_000;
-        write!(f, "{whole}.{rest:04}")
+        decimal(f, self.0, 4)
     }
+}
+
+/// Writes a number with its last `places` digits after the decimal point, and a minus sign before it where it is negative.
+fn signed<W: fmt::Write>(f: &mut fmt::Formatter<W>, number: i64, places: u32) -> fmt::Result
+    requires { places ≤ 38 }
+{
+    if number < 0 {
+        write!(f, "-")?;
+    }
+    decimal(f, u128::from(number.unsigned_abs()), places)
+}
+
+/// Writes a number with its last `places` digits after the decimal point.
+fn decimal<W: fmt::Write>(f: &mut fmt::Formatter<W>, number: u128, places: u32) -> fmt::Result
+    requires { places ≤ 38 }
+{
+    let scale = 10u128.pow(places);
+    let width = places as usize;
+    write!(f, "{}.{:0width$}", number / scale, number % scale)
 }

@@ -2,7 +2,7 @@ use Rattle.std.proofs.Common.{◌≡◌, ◌^◌, ◌<◌, nat_abs, ap, ◌∙�
 use mir.Syntax.{w128}
 use Rattle.rounding.specs.Rounding.{money_rounded}
 use Rattle.rounding.proofs.Near.{money_bound}
-use Rattle.designs.proofs.Widths.{fits_64, cut_to_64}
+use Rattle.designs.proofs.Widths.{cut_to_64}
 use Rattle.schedules.proofs.months.dollars.Goals as goal
 
 value : (c : goal.After-round_money) → c.round_money.result ≡ money_rounded c.args.cents 100
@@ -12,9 +12,6 @@ value c =
 
 small : (c : goal.After-round_money) → nat_abs (money_rounded c.args.cents 100) < 2 ^ 62
 small c = let h = money_bound c.args.cents 100 (2 ^ 58) (omega arith) (omega (arith, c.requires)) in omega arith
-
-pub overflow_cast-result : goal.overflow_cast-result
-overflow_cast-result c = fits_64 c.round_money.result _ (value c) (small c)
 
 pub returns : goal.returns
 returns c = cut_to_64 c.round_money.result _ (value c) (small c)

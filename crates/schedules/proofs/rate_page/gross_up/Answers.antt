@@ -8,7 +8,7 @@ use Rattle.schedules.proofs.rate_page.gross_up.Goals as goal
 
 value : (c : goal.After-round_rate) → c.round_rate.result ≡ gross_up_of c.args.tax.value
 unfolding gross_up_of
-value c = c.round_rate.ensures.value ∙ ap (λ n. rate_rounded (pos 10000000000) (10000 - n)) c.value.ensures
+value c = c.round_rate.ensures.value ∙ ap (λ n. rate_rounded (pos 10000000000) (10000 - n)) c.value.ensures.value
 
 small : (c : goal.After-round_rate) → nat_abs (gross_up_of c.args.tax.value) < 2 ^ 62
 unfolding gross_up_of

@@ -13,10 +13,10 @@ current c =
     let b : SFits w64 figures.loss = search rules in
     let d : SFits w64 figures.adm = search rules in
     let e : SFits w64 figures.nits = search rules in
-    let cost : flat.cost.units ≡ nat_abs figures.cost = omega (arith, ints, is.0) in
+    let cost : flat.cost.value ≡ nat_abs figures.cost = omega (arith, ints, is.0) in
     let loss : flat.loss.value ≡ nat_abs figures.loss = omega (arith, ints, is.1) in
-    let adm : flat.adm.units ≡ nat_abs figures.adm = omega (arith, ints, is.2) in
-    let nits : flat.nits.units ≡ nat_abs figures.nits = omega (arith, ints, is.3) in
+    let adm : flat.adm.value ≡ nat_abs figures.adm = omega (arith, ints, is.2) in
+    let nits : flat.nits.value ≡ nat_abs figures.nits = omega (arith, ints, is.3) in
     cc c.ptc_current.ensures.value
 
 pub returns : goal.returns
