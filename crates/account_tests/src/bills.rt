@@ -7,7 +7,7 @@ use std::test::Fail;
 /// The place of the hour that a bill is refused for.
 fn place(refusal: BillRefusal) -> Option<usize> {
     match refusal {
-        BillRefusal::OfPeriod(stop) => stop.hour,
+        BillRefusal::OfPeriod(refusal) => refusal.hour(),
         BillRefusal::OfAccount(_) => None,
     }
 }
@@ -20,10 +20,10 @@ fn billed<D: RateDesign>(
     count: usize,
 ) -> Result<(u64, i64), (u8, Option<usize>, bool)> {
     let before = seen(account);
-    match account.bill(held, start, count) {
-        Ok(bill) => Ok((bill.quantity, bill.amount.0)),
-        Err(refusal) => Err((refusal.number(), place(refusal), seen(account) == before)),
-    }
+    account
+        .bill(held, start, count)
+        .map(|bill| (bill.quantity, bill.amount.0))
+        .map_err(|refusal| (refusal.number(), place(refusal), seen(account) == before))
 }
 
 /// Bills one hour of this energy at this price.
@@ -206,13 +206,18 @@ fn hourly_bills_with_every_charge(rt: HostRuntime) -> Result<(), Fail> {
 
 /// Bills one hour of 1 kWh this many times: 0, or the number of the refusal that stopped it.
 fn billed_often(account: &mut Account<Flat>, times: u32) -> u8 {
+    bill_often(account, times)
+        .map_err(BillRefusal::number)
+        .err()
+        .unwrap_or(0)
+}
+
+fn bill_often(account: &mut Account<Flat>, times: u32) -> Result<(), BillRefusal> {
     let held = [hour(1, 0)];
     for _ in 0..times {
-        if let Err(refusal) = account.bill(&held, 0, 1) {
-            return refusal.number();
-        }
+        account.bill(&held, 0, 1)?;
     }
-    0
+    Ok(())
 }
 
 #[test]

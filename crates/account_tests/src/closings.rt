@@ -9,10 +9,9 @@ use std::test::Fail;
 /// What a closing told, or the refusal's number with whether the account was then as before.
 fn closing<D: RateDesign>(account: &mut Account<D>) -> Result<Closing, (u8, bool)> {
     let before = seen(account);
-    match account.close() {
-        Ok(closing) => Ok(closing),
-        Err(refusal) => Err((refusal.number(), seen(account) == before)),
-    }
+    account
+        .close()
+        .map_err(|refusal| (refusal.number(), seen(account) == before))
 }
 
 /// What a closing is to tell: months, tax, net, carrying charge and new balance.
@@ -39,10 +38,10 @@ fn enter<D>(account: &mut Account<D>, kind: u64, amount: i64) -> Result<(), Fail
 
 /// Bills one hour of this energy at this price, and tells the bill, 0 where it is refused.
 fn bill<D: RateDesign>(account: &mut Account<D>, kwh: u64, price: i64) -> i64 {
-    match account.bill(&[hour(kwh, price)], 0, 1) {
-        Ok(bill) => bill.amount.0,
-        Err(_) => 0,
-    }
+    account
+        .bill(&[hour(kwh, price)], 0, 1)
+        .map(|bill| bill.amount.0)
+        .unwrap_or(0)
 }
 
 /// An account of this balance at tax 5.90 %, under 6 % and over 8 %, with PTC_Current 7,145.
@@ -54,10 +53,8 @@ fn usual(balance: i64) -> Result<Account<Flat>, Fail> {
 fn a_first_month_worked_by_hand(rt: HostRuntime) -> Result<(), Fail> {
     let mut account = usual(0)?;
     enter(&mut account, 2, 10_000)?;
-    match account.bill(&[hour(1_000, 0)], 0, 1) {
-        Ok(bill) => assert_eq!(rt; (bill.quantity, bill.amount.0), (1_000, 7_593)),
-        Err(_) => return Err(Fail::new("the bill was refused")),
-    }
+    let bill = account.bill(&[hour(1_000, 0)], 0, 1)?;
+    assert_eq!(rt; (bill.quantity, bill.amount.0), (1_000, 7_593));
     assert_eq!(rt; read(&account), (0, 0, None, 2_855));
     assert_eq!(rt; closing(&mut account), closes(1, 448, 7_145, 7, 2_862));
     assert_eq!(rt; read(&account), (1, 0, None, 2_862));

@@ -2,8 +2,8 @@
 #[cfg(test)]
 use account::Account;
 use account::{CostLine, Draft, Filing, Ledger, OpenMonth, Opening, Pending, Refusal, Terms};
-use designs::{Flat, FlatFigures, Hour, Period, RateDesign, cut};
-use reconciliation::{Cents, RateUnits, ReconciliationRate, TaxRate};
+use designs::{Flat, FlatFigures, Hour, RateDesign, cut};
+use reconciliation::{Cents, RateUnits, ReconciliationRate, tax_rate};
 use std::test::Fail;
 
 /// An hour of this energy at this price.
@@ -55,11 +55,9 @@ pub fn opened<D: Copy>(
 }
 
 /// The number that a refusal is told by, 0 where there is none.
+// For this layer's refusal: each layer has an enum of its own.
 pub fn told<T: Drop>(answer: Result<T, Refusal>) -> u8 {
-    match answer {
-        Ok(_) => 0,
-        Err(refusal) => refusal.number(),
-    }
+    answer.map_err(Refusal::number).err().unwrap_or(0)
 }
 
 /// All that is seen of an account, its design by what it bills 1,000 kWh at price 0 before E and tax, which is PTC_Current if flat.
@@ -75,16 +73,10 @@ pub struct View {
 /// What a design bills 1,000 kWh at price 0 before E and tax.
 pub fn probed<D: RateDesign>(design: &D) -> Option<i64> {
     let hours = [hour(1_000, 0)];
-    let Ok(part) = cut(&hours, 0, 1) else {
-        return None;
-    };
-    let Ok(e) = ReconciliationRate::new(0) else {
-        return None;
-    };
-    let Ok(tax) = TaxRate::new(0) else {
-        return None;
-    };
-    Some(design.bill(Period::new(part), e, tax).0)
+    let period = cut(&hours, 0, 1).ok()?;
+    let e = ReconciliationRate::try_from(0).ok()?;
+    let tax = tax_rate(0).ok()?;
+    Some(design.bill(period, e, tax).0)
 }
 
 /// What is seen of an account now.
@@ -147,45 +139,49 @@ pub fn read<D: RateDesign>(account: &Account<D>) -> (u32, i64, Option<u32>, i64)
 
 /// Enters the same cost this many times: 0, or the number of the refusal that stopped it.
 pub fn entered_often<D>(account: &mut Account<D>, kind: u64, amount: i64, times: u32) -> u8 {
+    told(enter_often(account, kind, amount, times))
+}
+
+fn enter_often<D>(
+    account: &mut Account<D>,
+    kind: u64,
+    amount: i64,
+    times: u32,
+) -> Result<(), Refusal> {
     for _ in 0..times {
-        if let Err(refusal) = account.cost(kind, Cents(amount)) {
-            return refusal.number();
-        }
+        account.cost(kind, Cents(amount))?;
     }
-    0
+    Ok(())
 }
 
 /// Closes this many months: 0, or the number of the refusal that stopped it.
 pub fn closed<D>(account: &mut Account<D>, months: u32) -> u8 {
+    told(close_often(account, months))
+}
+
+fn close_often<D>(account: &mut Account<D>, months: u32) -> Result<(), Refusal> {
     for _ in 0..months {
-        if let Err(refusal) = account.close() {
-            return refusal.number();
-        }
+        account.close()?;
     }
-    0
+    Ok(())
 }
 
 /// Files over this projected sum, or tells the number of the refusal.
 pub fn filed<D>(account: &mut Account<D>, sum: u64) -> Result<Filing, u8> {
-    let draft = match Draft::new(sum, 0, 0) {
-        Ok(draft) => draft,
-        Err(refusal) => return Err(refusal.number()),
-    };
-    match account.file(draft) {
-        Ok(filing) => Ok(filing),
-        Err(back) => {
-            let (_draft, refusal) = back;
-            Err(refusal.number())
-        }
-    }
+    let draft = Draft::new(sum, 0, 0).map_err(Refusal::number)?;
+    account
+        .file(draft)
+        .map_err(|(_draft, refusal)| refusal.number())
+}
+
+/// The failure of a test in which a lawful filing was refused.
+pub fn refused(number: u8) -> Fail {
+    Fail::new(format_args!("a lawful filing was refused: {number}"))
 }
 
 /// Withdraws the filing: its number, or the number of the refusal.
 pub fn withdrawn<D>(account: &mut Account<D>, filing: Filing) -> Result<u32, u8> {
-    match account.withdraw(filing) {
-        Ok(number) => Ok(number),
-        Err(refusal) => Err(refusal.number()),
-    }
+    account.withdraw(filing).map_err(Refusal::number)
 }
 
 /// A filing that was not taken into force: why, whether the account was then as before, the number of the filing handed back,
@@ -201,15 +197,13 @@ pub struct Back {
 /// Takes the filing into force and tells E; where that is refused, withdraws it.
 pub fn forced(account: &mut Account<Flat>, filing: Filing, design: Flat) -> Result<i64, Back> {
     let before = seen(account);
-    match account.force(filing, design) {
-        Ok(e) => Ok(e.0),
-        Err((filing, refusal)) => Err(Back {
-            refusal: refusal.number(),
-            kept: seen(account) == before,
-            number: filing.number(),
-            withdrawal: withdrawn(account, filing),
-        }),
-    }
+    let answer = account.force(filing, design).map(|e| e.0);
+    answer.map_err(|(filing, refusal)| Back {
+        refusal: refusal.number(),
+        kept: seen(account) == before,
+        number: filing.number(),
+        withdrawal: withdrawn(account, filing),
+    })
 }
 
 /// An account used for three months: opened as number 9 with 50.00 at tax 5.90 %, under 6 % and over 8 %, PTC_Current 8,000 and E 5

@@ -1,6 +1,6 @@
 //! Costs of the open month.
 use crate::common::*;
-use account::{Account, CostKind, CostLine};
+use account::{Account, CostKind, CostLine, Refusal};
 use designs::Flat;
 use reconciliation::Cents;
 use std::test::Fail;
@@ -21,10 +21,9 @@ fn line(count: u32, total: i64) -> CostLine {
 
 /// The number of the kind that has this number, or of the refusal.
 fn kind(number: u64) -> Result<u8, u8> {
-    match CostKind::new(number) {
-        Ok(kind) => Ok(kind.number()),
-        Err(refusal) => Err(refusal.number()),
-    }
+    CostKind::try_from(number)
+        .map(CostKind::number)
+        .map_err(Refusal::number)
 }
 
 #[test]
@@ -85,7 +84,7 @@ fn a_kind_takes_ten_thousand_entries(rt: HostRuntime) -> Result<(), Fail> {
 #[test]
 fn every_line_holds_the_largest_costs(rt: HostRuntime) -> Result<(), Fail> {
     let mut account = opened(1, 10_000_000_000_000, [0; 3], plain(0)?)?;
-    for kind in 1..9 {
+    for kind in 1..=8 {
         assert_eq!(rt;
             entered_often(&mut account, kind, 100_000_000_000, 10_000),
             0
@@ -101,14 +100,14 @@ fn every_line_holds_the_largest_costs(rt: HostRuntime) -> Result<(), Fail> {
 
 /// Enters these costs as the kinds 1 to 8: 0, or the number of the refusal that stopped it.
 fn entered_in_turn(account: &mut Account<Flat>, amounts: &[i64]) -> u8 {
-    let mut kind: u64 = 1;
-    for amount in amounts {
-        if let Err(refusal) = account.cost(kind, Cents(*amount)) {
-            return refusal.number();
-        }
-        kind = if kind < 8 { kind + 1 } else { 1 };
+    told(enter_in_turn(account, amounts))
+}
+
+fn enter_in_turn(account: &mut Account<Flat>, amounts: &[i64]) -> Result<(), Refusal> {
+    for (place, amount) in amounts.iter().enumerate() {
+        account.cost(place as u64 % 8 + 1, Cents(*amount))?;
     }
-    0
+    Ok(())
 }
 
 #[test]

@@ -1,6 +1,6 @@
 //! Drafts and filings: their ranges, their calendar, and what they change.
 use crate::common::*;
-use account::{Account, Draft, Filing, Pending};
+use account::{Account, Draft, Filing, Pending, Refusal};
 use designs::Flat;
 use reconciliation::{Cents, RateUnits};
 use std::process::Abort;
@@ -8,10 +8,8 @@ use std::test::Fail;
 
 /// The sum of a draft of these projections, or the number of the refusal.
 fn drafted(first: u64, second: u64, third: u64) -> Result<u64, u8> {
-    match Draft::new(first, second, third) {
-        Ok(draft) => Ok(draft.sum().units()),
-        Err(refusal) => Err(refusal.number()),
-    }
+    let draft = Draft::new(first, second, third).map_err(Refusal::number)?;
+    Ok(draft.sum().units())
 }
 
 /// What amending a draft of the sum 7 told, 0 or the number of the refusal, and the sum that it then had.
@@ -24,23 +22,15 @@ fn amended(first: u64, second: u64, third: u64) -> Result<(u8, u64), Fail> {
 /// What a filing told, its number and E, once it is withdrawn again; or the refusal's number with the sum of the draft handed back
 /// and whether the account was then as before.
 fn tried(account: &mut Account<Flat>, sum: u64) -> Result<(u32, i64), (u8, u64, bool)> {
-    let draft = match Draft::new(sum, 0, 0) {
-        Ok(draft) => draft,
-        Err(refusal) => return Err((refusal.number(), 0, true)),
-    };
+    let draft = Draft::new(sum, 0, 0).map_err(|refusal| (refusal.number(), 0, true))?;
     let before = seen(account);
-    match account.file(draft) {
-        Ok(filing) => {
-            let told = (filing.number(), filing.e().0);
-            let _ = account.withdraw(filing);
-            Ok(told)
-        }
-        Err(back) => {
-            let (draft, refusal) = back;
-            let kept = seen(account) == before;
-            Err((refusal.number(), draft.sum().units(), kept))
-        }
-    }
+    let filing = account.file(draft).map_err(|(draft, refusal)| {
+        let kept = seen(account) == before;
+        (refusal.number(), draft.sum().units(), kept)
+    })?;
+    let told = (filing.number(), filing.e().0);
+    let _ = account.withdraw(filing);
+    Ok(told)
 }
 
 /// An account of this balance, without tax and interest.
@@ -58,11 +48,6 @@ fn filed_at(rt: &impl Abort, months: u32) -> Result<Result<(u32, i64), (u8, u64,
     let mut account = held(1, 2_500)?;
     assert_eq!(rt; closed(&mut account, months), 0);
     Ok(tried(&mut account, 1_000))
-}
-
-/// The failure of a test in which a lawful filing was refused.
-fn refused(number: u8) -> Fail {
-    Fail::new(format_args!("a lawful filing was refused: {number}"))
 }
 
 #[test]
@@ -157,14 +142,10 @@ fn e_is_of_the_last_balance_and_not_of_the_balance_now(rt: HostRuntime) -> Resul
 /// What is seen before a filing over the sum 500, while it pends, and after its withdrawal, with what the withdrawal told.
 fn watched(account: &mut Account<Flat>) -> Result<([View; 3], Result<u32, u8>), Fail> {
     let before = seen(account);
-    match filed(account, 500) {
-        Ok(filing) => {
-            let pending = seen(account);
-            let answer = withdrawn(account, filing);
-            Ok(([before, pending, seen(account)], answer))
-        }
-        Err(number) => Err(refused(number)),
-    }
+    let filing = filed(account, 500).map_err(refused)?;
+    let pending = seen(account);
+    let answer = withdrawn(account, filing);
+    Ok(([before, pending, seen(account)], answer))
 }
 
 #[test]
@@ -186,45 +167,34 @@ fn a_filing_pends_until_it_is_withdrawn(rt: HostRuntime) -> Result<(), Fail> {
     Ok(())
 }
 
-/// Files over the sum 1,000, closes this many months and files over 500: what the second filing told, and what then the withdrawal
-/// of the first told.
+/// Files over the sum 1,000, closes this many months and files over another sum: what the second filing told, and what then the
+/// withdrawal of the first told.
 fn filed_twice(
     months: u32,
+    sum: u64,
 ) -> Result<(Result<(u32, i64), (u8, u64, bool)>, Result<u32, u8>), Fail> {
     let mut account = held(1, 1_000)?;
-    match filed(&mut account, 1_000) {
-        Ok(first) => {
-            let _ = closed(&mut account, months);
-            let second = tried(&mut account, 500);
-            Ok((second, withdrawn(&mut account, first)))
-        }
-        Err(number) => Err(refused(number)),
-    }
+    let first = filed(&mut account, 1_000).map_err(refused)?;
+    let _ = closed(&mut account, months);
+    let second = tried(&mut account, sum);
+    Ok((second, withdrawn(&mut account, first)))
 }
 
 #[test]
 fn one_filing_pends_until_it_lapses(rt: HostRuntime) -> Result<(), Fail> {
-    assert_eq!(rt; filed_twice(0)?, (Err((42, 500, true)), Ok(1)));
-    assert_eq!(rt; filed_twice(1)?, (Err((41, 500, true)), Ok(1)));
-    assert_eq!(rt; filed_twice(2)?, (Err((41, 500, true)), Ok(1)));
-    assert_eq!(rt; filed_twice(3)?, (Ok((2, 2_000)), Err(43)));
-    assert_eq!(rt; filed_twice(4)?, (Err((41, 500, true)), Ok(1)));
-    assert_eq!(rt; filed_twice(6)?, (Ok((2, 2_000)), Err(43)));
+    assert_eq!(rt; filed_twice(0, 500)?, (Err((42, 500, true)), Ok(1)));
+    assert_eq!(rt; filed_twice(1, 500)?, (Err((41, 500, true)), Ok(1)));
+    assert_eq!(rt; filed_twice(2, 500)?, (Err((41, 500, true)), Ok(1)));
+    assert_eq!(rt; filed_twice(3, 500)?, (Ok((2, 2_000)), Err(43)));
+    assert_eq!(rt; filed_twice(4, 500)?, (Err((41, 500, true)), Ok(1)));
+    assert_eq!(rt; filed_twice(6, 500)?, (Ok((2, 2_000)), Err(43)));
     Ok(())
 }
 
-/// Files, closes this many months and files over the sum 1, at which E is too large: what that told.
+/// What the second of two filings told, over the sum 1, at which E is too large.
 fn filed_too_large(months: u32) -> Result<Result<(u32, i64), (u8, u64, bool)>, Fail> {
-    let mut account = held(1, 1_000)?;
-    match filed(&mut account, 1_000) {
-        Ok(first) => {
-            let _ = closed(&mut account, months);
-            let second = tried(&mut account, 1);
-            let _ = account.withdraw(first);
-            Ok(second)
-        }
-        Err(number) => Err(refused(number)),
-    }
+    let (second, _) = filed_twice(months, 1)?;
+    Ok(second)
 }
 
 #[test]
@@ -237,13 +207,11 @@ fn the_order_of_refusals_of_a_filing(rt: HostRuntime) -> Result<(), Fail> {
 
 /// A first filing that lapsed and a second that replaced it.
 fn replaced(account: &mut Account<Flat>) -> Result<(Filing, Filing), Fail> {
-    let first = match filed(account, 1_000) {
-        Ok(first) => first,
-        Err(number) => return Err(refused(number)),
-    };
+    let first = filed(account, 1_000).map_err(refused)?;
     let _ = closed(account, 3);
     match filed(account, 500) {
         Ok(second) => Ok((first, second)),
+        // The other filing has to be used up before the test can fail.
         Err(number) => {
             let _ = account.withdraw(first);
             Err(refused(number))
@@ -274,13 +242,7 @@ fn a_replaced_filing_cannot_be_taken_into_force(rt: HostRuntime) -> Result<(), F
     let _ = closed(&mut account, 2);
     let stale = forced(&mut account, first, design);
     let own = forced(&mut account, second, design);
-    let refusal = Back {
-        refusal: 43,
-        kept: true,
-        number: 1,
-        withdrawal: Err(43),
-    };
-    assert_eq!(rt; stale, Err(refusal));
+    assert_eq!(rt; stale, foreign(1));
     assert_eq!(rt; own, Ok(2_000));
     assert_eq!(rt; read(&account), (5, 2_000, None, 1_000));
     Ok(())
@@ -290,16 +252,12 @@ fn a_replaced_filing_cannot_be_taken_into_force(rt: HostRuntime) -> Result<(), F
 fn forced_after(months: u32, bills: u32) -> Result<Result<i64, Back>, Fail> {
     let design = plain(2_000)?;
     let mut account = held(1, 1_000)?;
-    match filed(&mut account, 500) {
-        Ok(filing) => {
-            let _ = closed(&mut account, months);
-            for _ in 0..bills {
-                let _ = account.bill(&[hour(0, 0)], 0, 1);
-            }
-            Ok(forced(&mut account, filing, design))
-        }
-        Err(number) => Err(refused(number)),
+    let filing = filed(&mut account, 500).map_err(refused)?;
+    let _ = closed(&mut account, months);
+    for _ in 0..bills {
+        let _ = account.bill(&[hour(0, 0)], 0, 1);
     }
+    Ok(forced(&mut account, filing, design))
 }
 
 /// The first filing handed back for this reason, and then withdrawn.
@@ -337,16 +295,12 @@ fn no_filing_is_taken_into_force_in_a_billed_month(rt: HostRuntime) -> Result<()
 fn seen_around_force() -> Result<(View, View, Result<i64, Back>), Fail> {
     let design = plain(2_000)?;
     let mut account = opened(8, -5_000, [590, 600, 800], plain(1_000)?)?;
-    match filed(&mut account, 1_000) {
-        Ok(filing) => {
-            let _ = closed(&mut account, 2);
-            let _ = account.cost(3, Cents(-77));
-            let before = seen(&account);
-            let answer = forced(&mut account, filing, design);
-            Ok((before, seen(&account), answer))
-        }
-        Err(number) => Err(refused(number)),
-    }
+    let filing = filed(&mut account, 1_000).map_err(refused)?;
+    let _ = closed(&mut account, 2);
+    let _ = account.cost(3, Cents(-77));
+    let before = seen(&account);
+    let answer = forced(&mut account, filing, design);
+    Ok((before, seen(&account), answer))
 }
 
 #[test]
@@ -376,10 +330,7 @@ fn force_changes_the_rate_and_what_pends_and_nothing_else(rt: HostRuntime) -> Re
 fn put_in_force(account: &mut Account<Flat>, sum: u64, design: Flat) -> Result<i64, u8> {
     let filing = filed(account, sum)?;
     let _ = closed(account, 2);
-    match forced(account, filing, design) {
-        Ok(e) => Ok(e),
-        Err(back) => Err(back.refusal),
-    }
+    forced(account, filing, design).map_err(|back| back.refusal)
 }
 
 #[test]
@@ -402,12 +353,10 @@ type Pair = (Result<i64, Back>, Result<i64, Back>);
 /// Two accounts file and close two months. Each is then asked to take the other's filing into force.
 fn exchanged(one: &mut Account<Flat>, other: &mut Account<Flat>) -> Result<Pair, Fail> {
     let design = plain(2_000)?;
-    let first = match filed(one, 1_000) {
-        Ok(first) => first,
-        Err(number) => return Err(refused(number)),
-    };
+    let first = filed(one, 1_000).map_err(refused)?;
     let second = match filed(other, 1_000) {
         Ok(second) => second,
+        // The other filing has to be used up before the test can fail.
         Err(number) => {
             let _ = one.withdraw(first);
             return Err(refused(number));
@@ -465,10 +414,7 @@ fn early(number: u64, pends: bool) -> Result<Result<i64, Back>, Fail> {
     let design = plain(2_000)?;
     let mut one = held(1, 1_000)?;
     let mut other = held(number, 1_000)?;
-    let filing = match filed(&mut other, 1_000) {
-        Ok(filing) => filing,
-        Err(number) => return Err(refused(number)),
-    };
+    let filing = filed(&mut other, 1_000).map_err(refused)?;
     if !pends {
         return Ok(forced(&mut one, filing, design));
     }
@@ -478,6 +424,7 @@ fn early(number: u64, pends: bool) -> Result<Result<i64, Back>, Fail> {
             let _ = one.withdraw(own);
             Ok(answer)
         }
+        // The other filing has to be used up before the test can fail.
         Err(number) => {
             let _ = other.withdraw(filing);
             Err(refused(number))
@@ -500,14 +447,10 @@ fn withdrawn_from(
     account: &mut Account<Flat>,
     other: &mut Account<Flat>,
 ) -> Result<(Result<u32, u8>, bool), Fail> {
-    match filed(other, 1_000) {
-        Ok(filing) => {
-            let before = seen(account);
-            let answer = withdrawn(account, filing);
-            Ok((answer, seen(account) == before))
-        }
-        Err(number) => Err(refused(number)),
-    }
+    let filing = filed(other, 1_000).map_err(refused)?;
+    let before = seen(account);
+    let answer = withdrawn(account, filing);
+    Ok((answer, seen(account) == before))
 }
 
 #[test]
@@ -529,15 +472,15 @@ fn only_its_own_pending_filing_is_withdrawn(rt: HostRuntime) -> Result<(), Fail>
 
 /// Files over the sum 1,000 and withdraws, this many times: 0, or the number of the refusal that stopped it.
 fn filed_often(account: &mut Account<Flat>, times: u32) -> u8 {
+    file_often(account, times).err().unwrap_or(0)
+}
+
+fn file_often(account: &mut Account<Flat>, times: u32) -> Result<(), u8> {
     for _ in 0..times {
-        match filed(account, 1_000) {
-            Ok(filing) => {
-                let _ = account.withdraw(filing);
-            }
-            Err(number) => return number,
-        }
+        let filing = filed(account, 1_000)?;
+        let _ = account.withdraw(filing);
     }
-    0
+    Ok(())
 }
 
 #[test]
@@ -560,10 +503,7 @@ fn the_millionth_filing_pends_like_any_other(rt: HostRuntime) -> Result<(), Fail
     let mut account = held(1, 1_000)?;
     assert_eq!(rt; filed_often(&mut account, 999_999), 0);
     let design = plain(2_000)?;
-    let filing = match filed(&mut account, 500) {
-        Ok(filing) => filing,
-        Err(number) => return Err(refused(number)),
-    };
+    let filing = filed(&mut account, 500).map_err(refused)?;
     let next = tried(&mut account, 1_000);
     let _ = closed(&mut account, 2);
     let answer = forced(&mut account, filing, design);

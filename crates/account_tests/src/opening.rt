@@ -113,10 +113,7 @@ fn an_opened_account_starts_at_nothing(rt: HostRuntime) -> Result<(), Fail> {
 fn opened_under_a_filing(rates: [i64; 3]) -> Result<((u8, bool), Result<u32, u8>), Fail> {
     let design = plain(500)?;
     let mut account = used()?;
-    let filing = match filed(&mut account, 1_000) {
-        Ok(filing) => filing,
-        Err(_) => return Err(Fail::new("the filing was refused")),
-    };
+    let filing = filed(&mut account, 1_000).map_err(refused)?;
     let before = seen(&account);
     let answer = told(account.open(opening(9, 0, rates, design)));
     let kept = seen(&account) == before;

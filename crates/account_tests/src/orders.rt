@@ -1,6 +1,6 @@
 //! Costs and bills in any order: the same answers and figures.
 use crate::common::*;
-use account::{Account, Closing};
+use account::{Account, BillRefusal, Closing, Refusal};
 use designs::Flat;
 use reconciliation::Cents;
 use std::process::Abort;
@@ -16,19 +16,22 @@ enum Entry {
 /// Makes an entry: the bill, 0 for a cost, or the number of the refusal.
 fn made(account: &mut Account<Flat>, entry: Entry) -> Result<i64, u8> {
     match entry {
-        Entry::Cost(kind, amount) => match account.cost(kind, Cents(amount)) {
-            Ok(()) => Ok(0),
-            Err(refusal) => Err(refusal.number()),
-        },
-        Entry::Bill(kwh) => match account.bill(&[hour(kwh, 0)], 0, 1) {
-            Ok(bill) => Ok(bill.amount.0),
-            Err(refusal) => Err(refusal.number()),
-        },
+        Entry::Cost(kind, amount) => {
+            account.cost(kind, Cents(amount)).map_err(Refusal::number)?;
+            Ok(0)
+        }
+        Entry::Bill(kwh) => {
+            let bill = account
+                .bill(&[hour(kwh, 0)], 0, 1)
+                .map_err(BillRefusal::number)?;
+            Ok(bill.amount.0)
+        }
     }
 }
 
 /// Makes entries in the order listed: how many were refused.
 fn made_all(account: &mut Account<Flat>, entries: &[Entry]) -> u32 {
+    // A `for`: each entry changes the account.
     let mut refused: u32 = 0;
     for entry in entries {
         if made(account, *entry).is_err() {
@@ -108,28 +111,21 @@ struct Rest {
 }
 
 fn closing(account: &mut Account<Flat>) -> Result<Closing, u8> {
-    match account.close() {
-        Ok(closing) => Ok(closing),
-        Err(refusal) => Err(refusal.number()),
-    }
+    account.close().map_err(Refusal::number)
 }
 
 /// Closes three months, files over the sum 300,000, closes two months and takes the filing into force with PTC_Current 6,000.
 fn ran_on(account: &mut Account<Flat>) -> Result<Rest, Fail> {
     let design = plain(6_000)?;
     let closings = [closing(account), closing(account), closing(account)];
-    match filed(account, 300_000) {
-        Ok(filing) => {
-            let told = (filing.number(), filing.e().0);
-            let _ = closed(account, 2);
-            Ok(Rest {
-                closings,
-                filing: Ok(told),
-                force: forced(account, filing, design),
-            })
-        }
-        Err(_) => Err(Fail::new("the filing was refused")),
-    }
+    let filing = filed(account, 300_000).map_err(refused)?;
+    let told = (filing.number(), filing.e().0);
+    let _ = closed(account, 2);
+    Ok(Rest {
+        closings,
+        filing: Ok(told),
+        force: forced(account, filing, design),
+    })
 }
 
 #[test]

@@ -1,17 +1,10 @@
 //! Rates and bills of the two designs.
+use crate::common::hour;
 use designs::{
-    Flat, FlatFigures, Hour, Hourly, HourlyFigures, Period, RateDesign, Refusal, cut, worked_sums,
+    Flat, FlatFigures, Hour, Hourly, HourlyFigures, RateDesign, Refusal, cut, worked_sums,
 };
-use reconciliation::{RateUnits, ReconciliationRate, TaxRate};
+use reconciliation::{ReconciliationRate, tax_rate};
 use std::test::Fail;
-
-/// An hour of this energy at this price.
-fn hour(kwh: u64, price: i64) -> Hour {
-    Hour {
-        kwh,
-        price: RateUnits(price),
-    }
-}
 
 fn flat(cost: i64, loss: i64, adm: i64, nits: i64) -> Result<Flat, Refusal> {
     Flat::new(FlatFigures {
@@ -33,17 +26,15 @@ fn hourly(oth: i64, loss: i64, cap: i64, adm: i64, unc: i64) -> Result<Hourly, R
 }
 
 /// The number that a refusal is told by, 0 where there is none.
+// For this layer's refusal: each layer has an enum of its own.
 fn told<D: Drop>(answer: Result<D, Refusal>) -> u8 {
-    match answer {
-        Ok(_) => 0,
-        Err(refusal) => refusal.number(),
-    }
+    answer.map_err(Refusal::number).err().unwrap_or(0)
 }
 
 /// Quantity and bill of all these hours.
 fn billed<D: RateDesign>(design: &D, hours: &[Hour], e: i64, tax: i64) -> Result<(u64, i64), Fail> {
-    let period = Period::new(cut(hours, 0, hours.len())?);
-    let bill = design.bill(period, ReconciliationRate::new(e)?, TaxRate::new(tax)?);
+    let period = cut(hours, 0, hours.len())?;
+    let bill = design.bill(period, ReconciliationRate::try_from(e)?, tax_rate(tax)?);
     Ok((design.quantity(period), bill.0))
 }
 
@@ -107,7 +98,7 @@ fn rates_gross_up_the_sum(rt: HostRuntime) -> Result<(), Fail> {
         let design = flat(ptc, 10_000, 0, 0)?;
         assert_eq!(rt;
             design
-                .rate(ReconciliationRate::new(e)?, TaxRate::new(tax)?)
+                .rate(ReconciliationRate::try_from(e)?, tax_rate(tax)?)
                 .0,
             rate
         );

@@ -4,6 +4,8 @@
 #[cfg(test)]
 mod billing;
 #[cfg(test)]
+mod common;
+#[cfg(test)]
 mod periods;
 #[cfg(test)]
 mod reconciling;

@@ -1,22 +1,13 @@
 //! Periods cut out of the hours held.
-use designs::{Hour, PeriodRefusal, cut};
-use reconciliation::RateUnits;
+use crate::common::hour;
+use designs::{Period, PeriodRefusal, cut};
 use std::test::Fail;
 
-/// An hour of this energy at this price.
-fn hour(kwh: u64, price: i64) -> Hour {
-    Hour {
-        kwh,
-        price: RateUnits(price),
-    }
-}
-
 /// How many hours were handed on, or the refusal's number with the hour's place.
-fn told(answer: Result<&[Hour], PeriodRefusal>) -> Result<usize, (u8, Option<usize>)> {
-    match answer {
-        Ok(part) => Ok(part.len()),
-        Err(stop) => Err((stop.refusal.number(), stop.hour)),
-    }
+fn told(answer: Result<Period, PeriodRefusal>) -> Result<usize, (u8, Option<usize>)> {
+    answer
+        .map(|period| period.hours().len())
+        .map_err(|refusal| (refusal.number(), refusal.hour()))
 }
 
 #[test]
@@ -72,14 +63,10 @@ fn the_first_bad_hour_is_told_by_its_place_in_the_period(rt: HostRuntime) {
 #[test]
 fn the_part_handed_on_begins_at_the_start(rt: HostRuntime) -> Result<(), Fail> {
     let held = [hour(10, 1), hour(20, -2), hour(30, 3), hour(40, 4)];
-    match cut(&held, 1, 2) {
-        Ok(part) => {
-            assert!(rt; part.len() == 2);
-            assert_eq!(rt; part[0].kwh, 20);
-            assert_eq!(rt; part[0].price.0, -2);
-            assert_eq!(rt; part[1].kwh, 30);
-            Ok(())
-        }
-        Err(_) => Err(Fail::new("a lawful part was refused")),
-    }
+    let part = cut(&held, 1, 2)?.hours();
+    assert!(rt; part.len() == 2);
+    assert_eq!(rt; part[0].kwh, 20);
+    assert_eq!(rt; part[0].price.0, -2);
+    assert_eq!(rt; part[1].kwh, 30);
+    Ok(())
 }

@@ -1,35 +1,33 @@
 //! Tax, net, carrying charges and the reconciliation rate.
 use reconciliation::{
-    AnnualRate, Cents, ProjectedSum, ReconciliationRate, Refusal, TaxRate, carrying_charge,
-    monthly_rate, net, reconciliation_rate, tax,
+    Cents, ProjectedSum, ReconciliationRate, Refusal, annual_rate, carrying_charge, monthly_rate,
+    net, reconciliation_rate, tax, tax_rate,
 };
 use std::test::Fail;
 
 /// The number that a refusal is told by, 0 where there is none.
+// For this layer's refusal: each layer has an enum of its own.
 fn told<T: Drop>(answer: Result<T, Refusal>) -> u8 {
-    match answer {
-        Ok(_) => 0,
-        Err(refusal) => refusal.number(),
-    }
+    answer.map_err(Refusal::number).err().unwrap_or(0)
 }
 
 #[test]
 fn ranges_have_their_edges(rt: HostRuntime) {
-    assert_eq!(rt; told(TaxRate::new(-1)), 22);
-    assert_eq!(rt; told(TaxRate::new(0)), 0);
-    assert_eq!(rt; told(TaxRate::new(2_000)), 0);
-    assert_eq!(rt; told(TaxRate::new(2_001)), 22);
-    assert_eq!(rt; told(AnnualRate::new(-1)), 22);
-    assert_eq!(rt; told(AnnualRate::new(0)), 0);
-    assert_eq!(rt; told(AnnualRate::new(2_400)), 0);
-    assert_eq!(rt; told(AnnualRate::new(2_401)), 22);
-    assert_eq!(rt; told(ReconciliationRate::new(-100_001)), 25);
-    assert_eq!(rt; told(ReconciliationRate::new(-100_000)), 0);
-    assert_eq!(rt; told(ReconciliationRate::new(100_000)), 0);
-    assert_eq!(rt; told(ReconciliationRate::new(100_001)), 25);
-    assert_eq!(rt; told(ProjectedSum::new(0)), 24);
-    assert_eq!(rt; told(ProjectedSum::new(1)), 0);
-    assert_eq!(rt; told(ProjectedSum::new(u64::MAX)), 0);
+    assert_eq!(rt; told(tax_rate(-1)), 22);
+    assert_eq!(rt; told(tax_rate(0)), 0);
+    assert_eq!(rt; told(tax_rate(2_000)), 0);
+    assert_eq!(rt; told(tax_rate(2_001)), 22);
+    assert_eq!(rt; told(annual_rate(-1)), 22);
+    assert_eq!(rt; told(annual_rate(0)), 0);
+    assert_eq!(rt; told(annual_rate(2_400)), 0);
+    assert_eq!(rt; told(annual_rate(2_401)), 22);
+    assert_eq!(rt; told(ReconciliationRate::try_from(-100_001)), 25);
+    assert_eq!(rt; told(ReconciliationRate::try_from(-100_000)), 0);
+    assert_eq!(rt; told(ReconciliationRate::try_from(100_000)), 0);
+    assert_eq!(rt; told(ReconciliationRate::try_from(100_001)), 25);
+    assert_eq!(rt; told(ProjectedSum::try_from(0)), 24);
+    assert_eq!(rt; told(ProjectedSum::try_from(1)), 0);
+    assert_eq!(rt; told(ProjectedSum::try_from(u64::MAX)), 0);
 }
 
 #[test]
@@ -50,7 +48,7 @@ fn tax_and_net_of_a_total(rt: HostRuntime) -> Result<(), Fail> {
     ];
     for case in &cases {
         let (total, rate, taxed) = *case;
-        let rate = TaxRate::new(rate)?;
+        let rate = tax_rate(rate)?;
         assert_eq!(rt; tax(Cents(total), rate).0, taxed);
         assert_eq!(rt;
             net(Cents(total), rate).0 as i128,
@@ -72,7 +70,7 @@ fn monthly_rates_in_millionths(rt: HostRuntime) -> Result<(), Fail> {
     ];
     for case in &cases {
         let (annual, monthly) = *case;
-        assert_eq!(rt; monthly_rate(AnnualRate::new(annual)?), monthly);
+        assert_eq!(rt; monthly_rate(annual_rate(annual)?), monthly);
     }
     Ok(())
 }
@@ -94,8 +92,8 @@ fn charges_go_by_the_sign_of_the_sum(rt: HostRuntime) -> Result<(), Fail> {
     ];
     for case in &cases {
         let (last, before, under, over, charge) = *case;
-        let under = AnnualRate::new(under)?;
-        let over = AnnualRate::new(over)?;
+        let under = annual_rate(under)?;
+        let over = annual_rate(over)?;
         assert_eq!(rt;
             carrying_charge(Cents(last), Cents(before), under, over).0,
             charge
@@ -106,14 +104,9 @@ fn charges_go_by_the_sign_of_the_sum(rt: HostRuntime) -> Result<(), Fail> {
 
 /// E of a balance over a projected sum, or the number of the refusal.
 fn filed(last: i64, projected: u64) -> Result<i64, u8> {
-    let sum = match ProjectedSum::new(projected) {
-        Ok(sum) => sum,
-        Err(refusal) => return Err(refusal.number()),
-    };
-    match reconciliation_rate(Cents(last), sum) {
-        Ok(e) => Ok(e.units()),
-        Err(refusal) => Err(refusal.number()),
-    }
+    let sum = ProjectedSum::try_from(projected).map_err(Refusal::number)?;
+    let e = reconciliation_rate(Cents(last), sum).map_err(Refusal::number)?;
+    Ok(e.units())
 }
 
 #[test]

@@ -62,18 +62,12 @@ fn bought() -> [Block; 5] {
 
 /// A line, or the number of the refusal.
 fn line(answer: Result<i64, Refusal>) -> Result<i64, u8> {
-    match answer {
-        Ok(price) => Ok(price),
-        Err(refusal) => Err(refusal.number()),
-    }
+    answer.map_err(Refusal::number)
 }
 
 /// The cost component of a whole schedule, or the number of the refusal.
 fn component(answer: Result<SupplyLines, Refusal>) -> Result<i64, u8> {
-    match answer {
-        Ok(lines) => Ok(lines.cost_component),
-        Err(refusal) => Err(refusal.number()),
-    }
+    Ok(answer.map_err(Refusal::number)?.cost_component)
 }
 
 #[test]
@@ -197,17 +191,13 @@ fn sums_of_lines(rt: HostRuntime) {
 
 #[test]
 fn a_whole_schedule(rt: HostRuntime) -> Result<(), Fail> {
-    match supply_schedule(&won(), &bought(), &autumn()) {
-        Ok(lines) => {
-            assert_eq!(rt; (lines.tranche_average, lines.tranche_part), (6_523, 4_892));
-            assert_eq!(rt; lines.block_average, 5_528);
-            assert_eq!(rt; (lines.fixed_part, lines.variable_part), (3_925, 1_108));
-            assert_eq!(rt; (lines.block_subtotal, lines.block_part), (6_248, 1_562));
-            assert_eq!(rt; lines.cost_component, 6_454);
-            Ok(())
-        }
-        Err(_) => Err(Fail::new("a lawful schedule was refused")),
-    }
+    let lines = supply_schedule(&won(), &bought(), &autumn())?;
+    assert_eq!(rt; (lines.tranche_average, lines.tranche_part), (6_523, 4_892));
+    assert_eq!(rt; lines.block_average, 5_528);
+    assert_eq!(rt; (lines.fixed_part, lines.variable_part), (3_925, 1_108));
+    assert_eq!(rt; (lines.block_subtotal, lines.block_part), (6_248, 1_562));
+    assert_eq!(rt; lines.cost_component, 6_454);
+    Ok(())
 }
 
 #[test]
