@@ -1,9 +1,7 @@
 -- What the checks of a period say of it, one hour at a time and as a whole.
-use Rattle.std.proofs.Common.{◌≡◌, ℕ, ◌+◌, ◌≤◌, List, [], ◌∷◌, length, drop, pos, neg_ℤ, ◌≤ℤ◌, Some, None, Ok, Err, Option, refl, ◌∙◌, arith, length-drop, length-take}
-use borrow.Author.Differences.{ints}
-use lib.Signed.{lt_z}
-use Rattle.std.proofs.ByRecursion.{All-from_get_or, All-get_or}
-use Rattle.std.specs.List.{AllByRecursion}
+use Rattle.std.proofs.Common.{◌≡◌, ℕ, ◌+◌, ◌≤◌, All, List, [], ◌∷◌, length, drop, pos, neg_ℤ, Some, None, Ok, Err, Option, refl, ◌∙◌, arith, length-drop, length-take, int_lt}
+use Rattle.std.proofs.lemmas.Int.{ints}
+use Rattle.std.proofs.lemmas.List.Elements.{All-cons, All-from_get_or, All-get_or, All-head, All-nil, All-tail}
 use Rattle.refusals.proofs.Passed.{passed, none_refuses, or_false}
 use Rattle.refusals.specs.Checks.{first, answer_unless}
 use Rattle.designs.specs.declared.hours.Hour.{Hour}
@@ -20,23 +18,19 @@ pub hour_passed : (place : ℕ) (h : Hour) (rest : List Hour) → LawfulHour h �
 hour_passed place h rest lawful = grind (arith, ints)
 
 -- hours in range are those that pass
-pub all_pass : (place : ℕ) (hours : List Hour) → AllByRecursion LawfulHour hours → refused_from place hours ≡ None
+pub all_pass : (place : ℕ) (hours : List Hour) → All LawfulHour hours → refused_from place hours ≡ None
 all_pass place [] all = refl
-all_pass place (h ∷ hours) all = hour_passed place h hours all.0 ∙ all_pass (place + 1) hours all.1
+all_pass place (h ∷ hours) all = hour_passed place h hours (All-head LawfulHour h hours all) ∙ all_pass (place + 1) hours (All-tail LawfulHour h hours all)
 
-pub pass_all : (place : ℕ) (hours : List Hour) → refused_from place hours ≡ None → AllByRecursion LawfulHour hours
-pass_all place [] none = tt
+pub pass_all : (place : ℕ) (hours : List Hour) → refused_from place hours ≡ None → All LawfulHour hours
+pass_all place [] none = All-nil LawfulHour
 pass_all place (h ∷ hours) none =
     let each = passed (hour_checks place (h ∷ hours)) none in
-    let price = or_false (lt_z h.price.0 (neg_ℤ (pos 100000))) (lt_z (pos 400000) h.price.0) each.1.0 in
-    let a = each.0 in
-    let kwh : h.kwh ≤ 100000 = grind arith in
-    let low : neg_ℤ (pos 100000) ≤ℤ h.price.0 = grind (arith, ints) in
-    let high : h.price.0 ≤ℤ pos 400000 = grind (arith, ints) in
-    ((kwh, low, high), pass_all (place + 1) hours (none_refuses (hour_checks (place + 1) hours) each.1.1))
+    let price = or_false (int_lt h.price.0 (neg_ℤ (pos 100000))) (int_lt (pos 400000) h.price.0) each.1.0 in
+    All-cons LawfulHour h hours (grind arith, grind (arith, ints), grind (arith, ints)) (pass_all (place + 1) hours (none_refuses (hour_checks (place + 1) hours) each.1.1))
 
 -- hours in range, at each place
-pub each_lawful : (period : List Hour) → Lawful period → AllByRecursion LawfulHour period
+pub each_lawful : (period : List Hour) → Lawful period → All LawfulHour period
 each_lawful period lawful = All-from_get_or LawfulHour period no_hour lawful.2
 
 module _ (held : List Hour) (start count : ℕ) where
@@ -61,8 +55,8 @@ module _ (held : List Hour) (start count : ℕ) where
 -- a list of checks that answers has refused nothing, and one that refuses has its refusal
 pub answered : {A : Type 0} (o : Option PeriodRefusal) (x : A) → Ok x ≡ answer_unless o x → o ≡ None
 answered None x e = refl
-answered (Some r) x e = absurd (let z : ◌≡◌ {A = ℕ} 0 1 = cc in omega arith)
+answered (Some r) x e = cc
 
 pub told : {A : Type 0} (o : Option PeriodRefusal) (x : A) (r : PeriodRefusal) → Err r ≡ answer_unless o x → o ≡ Some r
-told None x r e = absurd (let z : ◌≡◌ {A = ℕ} 0 1 = cc in omega arith)
+told None x r e = cc
 told (Some r') x r e = cc
