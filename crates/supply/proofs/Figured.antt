@@ -1,10 +1,9 @@
 -- What the tests of figures say.
-use Rattle.std.proofs.Common.{◌≡◌, ℕ, Bool, true, false, List, get_or, ℤ, pos, ◌≤ℤ◌, refl, sym, ◌∙◌, arith}
-use borrow.Author.Differences.{ints}
+use Rattle.std.proofs.Common.{◌≡◌, ℕ, Bool, false, List, ℤ, pos, ◌≤ℤ◌, arith}
+use Rattle.std.proofs.lemmas.Int.{ints}
 use Rattle.std.specs.List.{All, list_any}
 use Rattle.std.proofs.lemmas.List.Folds.{list_any_at}
 use Rattle.std.proofs.lemmas.List.Elements.{All-weaker}
-use Rattle.std.proofs.lemmas.Bool.{false≢true}
 use Rattle.supply.specs.Figures.{factor_out, outside, price_out, printed_out, share_out}
 
 abbrev pub Between : ℕ → ℕ → ℤ → Type 0
@@ -35,11 +34,7 @@ factor_inside z e = inside (pos 50) (pos 200) z e
 
 -- where none passes, each fails
 pub none_passes : {X : Type 0} (test : X → Bool) (xs : List X) → list_any test xs ≡ false → All (λ x. test x ≡ false) xs
-none_passes {X = X} test xs e k d lt = go (test (get_or xs k d)) refl
-  where
-    go : (b : Bool) → test (get_or xs k d) ≡ b → test (get_or xs k d) ≡ false
-    go true h = absurd (false≢true (sym e ∙ list_any_at test xs k d lt h))
-    go false h = h
+none_passes test xs e k d lt = let any = list_any_at test xs k d lt in grind arith
 
 pub prices_inside : (prices : List ℤ) → list_any price_out prices ≡ false → All (Between 0 100000) prices
 prices_inside prices e = All-weaker (λ z. price_out z ≡ false) (Between 0 100000) (λ z. price_inside z) prices (none_passes price_out prices e)

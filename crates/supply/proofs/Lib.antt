@@ -2,5 +2,4 @@ pub mod Figured
 pub mod Lists
 pub mod Sizes
 pub mod Bits
-pub mod Sums
 pub mod Sheet

@@ -1,16 +1,15 @@
 -- What the tests of a list of lines say, and the bounds of a lawful list's sums.
-use Rattle.std.proofs.Common.{◌≡◌, ℕ, ◌+◌, ◌*◌, ◌<◌, ◌≤◌, false, List, [], ◌∷◌, length, take, ℤ, pos, negsuc, ◌+ℤ◌, ◌*ℤ◌, ◌≤ℤ◌, fold, map, ap, ◌∙◌, arith, length-take, SFits}
-use mir.Syntax.{w128}
-use borrow.Author.Differences.{ints}
+use Rattle.std.proofs.Common.{Ok, Result, ◌≡◌, ℕ, ◌+◌, ◌*◌, ◌<◌, ◌≤◌, false, List, [], ◌∷◌, length, ℤ, pos, negsuc, nat_abs, ◌+ℤ◌, ◌*ℤ◌, ◌≤ℤ◌, fold, arith}
+use Rattle.std.proofs.lemmas.Int.{ints}
 use Rattle.std.specs.List.{All}
 use Rattle.std.proofs.lemmas.Bool.Decides.{nat_tests}
 use Rattle.std.proofs.lemmas.Nat.{mul-le}
-use Rattle.std.proofs.lemmas.List.Elements.{All-head, All-tail, All-take, All-weaker}
-use Rattle.std.proofs.lemmas.List.{take-map}
-use Rattle.std.proofs.lemmas.List.Folds.{fold-map}
+use Rattle.std.proofs.lemmas.List.Elements.{All-head, All-tail, All-weaker}
 use Rattle.std.proofs.lemmas.List.Sums.{sum_by-cons, sum_by-le}
+use Rattle.refusals.specs.Checks.{answer_unless, first}
+use Rattle.supply.specs.declared.refusal.Refusal.{Refusal}
 use Rattle.supply.proofs.Figured.{none_passes, price_inside}
-use Rattle.supply.specs.Kinds.{Kind, Lawful, line_out, some_out, weighted_sum, weights, wrong_count}
+use Rattle.supply.specs.Kinds.{Kind, Lawful, line_out, lines_checks, some_out, weighted_sum, weights, wrong_count}
 
 -- a line in range
 pub record InRange {L : Type 0} (kind : Kind L) (line : L) : Type 0 where
@@ -74,40 +73,34 @@ pub right_count : {L : Type 0} (lines : List L) → wrong_count lines ≡ false 
 unfolding wrong_count
 right_count lines e = (grind (arith, nat_tests), grind (arith, nat_tests))
 
+-- a list that no check refuses is lawful
+pub lawful_list : {L : Type 0} (kind : Kind L) (lines : List L) → ◌≡◌ {A = Result (Unit {0}) Refusal} (Ok tt) (answer_unless (first (lines_checks kind lines)) tt) → Lawful kind lines
+lawful_list kind lines e = (grind arith, grind arith)
+
 -- what the sums of a list in range stay below
 pub record Small {L : Type 0} (kind : Kind L) (lines : List L) : Type 0 where
   pub low : pos 0 ≤ℤ weighted_sum kind lines
   pub high : weighted_sum kind lines ≤ℤ pos 64000000000000
   pub light : weights kind lines ≤ 640000000
 
-small_list : {L : Type 0} (kind : Kind L) (lines : List L) → kind.most ≤ 10000000 → length lines ≤ 64 → All (InRange kind) lines → Small kind lines
-small_list kind lines most short all =
+pub small : {L : Type 0} (kind : Kind L) (lines : List L) → kind.most ≤ 10000000 → Lawful kind lines → Small kind lines
+small kind lines most lawful =
+    let all = all_in_range kind lines lawful.1 in
     let b = sum_between kind lines all in
     let w = weights_high kind lines all in
-    let m = mul-le (length lines) kind.most 64 10000000 short most in
+    let m = mul-le (length lines) kind.most 64 10000000 (right_count lines lawful.0).1 most in
     let light : weights kind lines ≤ 640000000 = omega arith in
     record { low = b.0; high = omega (arith, ints, b.1, light); light = light }
-
-pub small : {L : Type 0} (kind : Kind L) (lines : List L) → kind.most ≤ 10000000 → Lawful kind lines → Small kind lines
-small kind lines most lawful = small_list kind lines most (right_count lines lawful.0).1 (all_in_range kind lines lawful.1)
-
--- the same of the first i lines
-pub small_part : {L : Type 0} (kind : Kind L) (lines : List L) (i : ℕ) → kind.most ≤ 10000000 → Lawful kind lines → Small kind (take i lines)
-small_part kind lines i most lawful =
-    let count = right_count lines lawful.0 in
-    let short : length (take i lines) ≤ 64 = simp length-take (omega arith) in
-    small_list kind (take i lines) most short (All-take (InRange kind) i lines (all_in_range kind lines lawful.1))
 
 -- what a line adds to the weighted sum
 abbrev pub product : {L : Type 0} → Kind L → L → ℤ
 product kind line = pos (kind.weight line) *ℤ kind.price line
 
--- the weighted sum is the sum of the products
-pub products : {L : Type 0} (kind : Kind L) (lines : List L) → fold ◌+ℤ◌ (pos 0) (map (product kind) lines) ≡ weighted_sum kind lines
-unfolding weighted_sum
-products kind lines = fold-map ◌+ℤ◌ (product kind) (pos 0) lines
-
-pub products_fit : {L : Type 0} (kind : Kind L) (lines : List L) → kind.most ≤ 10000000 → Lawful kind lines → (i : ℕ) → SFits w128 (fold ◌+ℤ◌ (pos 0) (take i (map (product kind) lines)))
-products_fit kind lines most lawful i =
-    let s = small_part kind lines i most lawful in
-    rw (ap (fold ◌+ℤ◌ (pos 0)) (take-map (product kind) i lines) ∙ products kind (take i lines)) (omega (arith, ints, s.low, s.high))
+-- what each adds is small
+pub products_small : {L : Type 0} (kind : Kind L) (lines : List L) → kind.most ≤ 10000000 → Lawful kind lines → All (λ line. nat_abs (product kind line) ≤ 1000000000000) lines
+products_small kind lines most lawful =
+    All-weaker (InRange kind) (λ line. nat_abs (product kind line) ≤ 1000000000000)
+    (λ line h.
+    let p = one (kind.weight line) 0 100000 (kind.price line) h.low h.high in
+    let w = h.most in
+    omega (arith, ints, p.0, p.1)) lines (all_in_range kind lines lawful.1)

@@ -1,19 +1,14 @@
 -- A lawful sheet: its terms, the range of each line, and that the single lines in a row give the whole.
-use Rattle.std.proofs.Common.{◌≡◌, ℕ, ◌+◌, ◌≤◌, Bool, true, false, ◌||◌, List, [], ◌∷◌, ◌++◌, length, ℤ, ◌+ℤ◌, Ok, Result, refl, ap, arith}
-use borrow.Author.Differences.{ints}
-use Rattle.std.proofs.lemmas.Bool.{or_from}
-use Rattle.refusals.specs.Checks.{Checks, answer_unless, first}
-use Rattle.refusals.proofs.Passed.{Passed, none_refuses}
+use Rattle.std.proofs.Common.{◌≡◌, ℕ, ◌+◌, ◌≤◌, false, List, length, ℤ, ◌+ℤ◌, sym, arith}
+use Rattle.std.proofs.lemmas.Int.{ints}
 use Rattle.supply.specs.declared.blocks.Block.{Block}
 use Rattle.supply.specs.declared.tranches.Tranche.{Tranche}
-use Rattle.supply.specs.declared.refusal.Refusal.{Refusal}
-use Rattle.supply.specs.declared.refusal.Refusal.TheVariants.{LineCount, LineOutOfRange, TermOutOfRange}
 use Rattle.supply.specs.declared.terms.Terms.{Terms}
 use Rattle.supply.specs.Figures.{price_out, printed_out, share_out}
 use Rattle.std.specs.List.{list_any}
-use Rattle.supply.specs.Kinds.{Kind, Lawful, lines_checks, some_out, wrong_count}
+use Rattle.supply.specs.Kinds.{Lawful, some_out, wrong_count}
 use Rattle.supply.specs.Lines.{a_block, a_tranche}
-use Rattle.supply.specs.Schedule.{LineByLine, block_average, lines_of, part_of, rest_of, share_checks, subtotal_of, tranche_average}
+use Rattle.supply.specs.Schedule.{LineByLine, block_average, lines_of, part_of, rest_of, subtotal_of, tranche_average}
 use Rattle.supply.specs.Terms.{seasons_out, terms_out}
 use Rattle.supply.proofs.Bits.{bits, same}
 use Rattle.supply.proofs.Figured.{Between, price_inside, prices_inside, printed, share_inside}
@@ -43,19 +38,6 @@ unfolding subtotal_of
 subtotal_between k fixed variable adders f v e short =
     let b = summed (k + k) (fixed +ℤ variable) adders (sum_between k k fixed variable f v) (prices_inside adders e) in
     (b.0, omega (arith, ints, b.1))
-
--- the answer where no check refuses
-pub answered : {A : Type 0} (checks : Checks Refusal) (a : A) → Passed checks → answer_unless (first checks) a ≡ Ok a
-answered checks a h = ap (λ o. answer_unless o a) (none_refuses checks h)
-
--- a list that no check refuses is lawful
-pub lawful_list : {L : Type 0} (kind : Kind L) (lines : List L) → ◌≡◌ {A = Result (Unit {0}) Refusal} (Ok tt) (answer_unless (first (lines_checks kind lines)) tt) → Lawful kind lines
-lawful_list kind lines e = go (wrong_count lines) (some_out kind lines) e
-  where
-    go : (count line : Bool) → ◌≡◌ {A = Result (Unit {0}) Refusal} (Ok tt) (answer_unless (first ((count, LineCount) ∷ (line, LineOutOfRange) ∷ [])) tt) → (count ≡ false) × (line ≡ false)
-    go true line e = (cc, cc)
-    go false true e = (cc, cc)
-    go false false e = (refl, refl)
 
 -- a lawful sheet
 pub record LawfulSheet (ts : List Tranche) (bs : List Block) (x : Terms) : Type 0 where
@@ -116,20 +98,23 @@ module _ (tranches : List Tranche) (blocks : List Block) (terms : Terms) where
   pub line_by_line : LawfulSheet tranches blocks terms → LineByLine tranches blocks terms (lines_of tranches blocks terms)
   unfolding lines_of
   line_by_line ok =
-      let s = ok.terms.tranche in
-      let p = ok.terms.fixed in
-      let v = fine 100000 terms.variable_price (omega arith) (price_inside terms.variable_price ok.terms.variable) in
+      let one = fine 200000 line_1 (omega arith) (low_1 ok) in
+      let two = fine 200000 line_2 (omega arith) (low_2 ok) in
+      let three = fine 100000 line_3 (omega arith) (low_3 ok) in
+      let f = fine 100000 fixed (omega arith) (low_fixed ok) in
+      let v = fine 100000 variable (omega arith) (low_variable ok) in
+      let price = fine 100000 terms.variable_price (omega arith) (price_inside terms.variable_price ok.terms.variable) in
+      let five = fine 500000 line_5 (omega arith) (low_5 ok) in
+      let six = fine 500000 line_6 (omega arith) (low_6 ok) in
       record {
-        line_1 = answered (lines_checks a_tranche tranches ++ (seasons_out terms.seasons, TermOutOfRange) ∷ []) line_1 (ok.tranches.0, (ok.tranches.1, (ok.terms.seasons, tt)));
-        line_2 = answered (share_checks line_1 terms.tranche_share) line_2 (fine 200000 line_1 (omega arith) (low_1 ok), (s, tt));
-        line_3 = answered (lines_checks a_block blocks) line_3 (ok.blocks.0, (ok.blocks.1, tt));
-        fixed = answered (share_checks line_3 terms.fixed_share) fixed (fine 100000 line_3 (omega arith) (low_3 ok), (p, tt));
-        variable = answered (share_checks terms.variable_price terms.fixed_share) variable (v, (p, tt));
-        line_5 = answered ((printed_out fixed || printed_out variable, LineOutOfRange) ∷ (list_any price_out terms.adders, TermOutOfRange) ∷ []) line_5
-            (or_from (printed_out fixed) (printed_out variable) (fine 100000 fixed (omega arith) (low_fixed ok)) (fine 100000 variable (omega arith) (low_variable ok)), (ok.terms.adders, tt));
-        line_6 = answered (share_checks line_5 terms.tranche_share) line_6 (fine 500000 line_5 (omega arith) (low_5 ok), (s, tt));
-        line_7 = answered ((printed_out line_2 || printed_out line_6, LineOutOfRange) ∷ []) (line_2 +ℤ line_6)
-            (or_from (printed_out line_2) (printed_out line_6) (fine 200000 line_2 (omega arith) (low_2 ok)) (fine 500000 line_6 (omega arith) (low_6 ok)), tt);
+        line_1 = grind arith;
+        line_2 = grind arith;
+        line_3 = grind arith;
+        fixed = grind arith;
+        variable = grind arith;
+        line_5 = grind arith;
+        line_6 = grind arith;
+        line_7 = grind arith;
       }
 
   -- the calls in a row answer the sheet's lines, each of which the code hands on as it is
@@ -167,3 +152,9 @@ module _ (tranches : List Tranche) (blocks : List Block) (terms : Terms) where
         same_6 = handed 500000 line_6 (omega arith) (low_6 ok);
         same_7 = handed 700000 (line_2 +ℤ line_6) (omega arith) (sum_between 200000 500000 line_2 line_6 (low_2 ok) (low_6 ok));
       }
+
+-- what a sheet that passes its tests has
+pub row : {tranches : List Tranche} {blocks : List Block} {terms : Terms} → false ≡ wrong_count tranches → false ≡ wrong_count blocks → false ≡ some_out a_tranche tranches → false ≡ some_out a_block blocks
+    → false ≡ terms_out terms → length terms.adders ≡ 3 → Row tranches blocks terms
+row {tranches} {blocks} {terms} t0 b0 t1 b1 x three =
+    in_a_row tranches blocks terms (record { tranches = (sym t0, sym t1); blocks = (sym b0, sym b1); terms = in_terms terms (sym x); three = three })

@@ -83,7 +83,7 @@ pub fn tranche_average(tranches: &[Tranche], seasons: Seasons) -> Result<CentsPe
 }
 
 /// Each season's factor by its months.
-#[tactic(auto, unfolding(crate::specs::Figures::outside, crate::specs::Terms::seasons_out))]
+#[tactic(auto, using(crate::proofs::Bits::seasons_worked), unfolding(crate::specs::Figures::outside, crate::specs::Terms::seasons_out))]
 fn season_weight(seasons: Seasons) -> i128
     requires { seasons_out seasons ≡ false }
     ensures { result ≡ season_weight seasons }
@@ -115,6 +115,7 @@ pub fn share_of(price: CentsPerMwh, share: TenThousandths) -> Result<CentsPerMwh
 }
 
 /// Lines 4 and 6: what the share leaves of a price.
+#[tactic(auto, unfolding(crate::specs::Figures::outside, crate::specs::Schedule::rest_of))]
 pub fn rest_of(price: CentsPerMwh, share: TenThousandths) -> Result<CentsPerMwh, Refusal>
     ensures { result ≡ rest_answer price share }
 {

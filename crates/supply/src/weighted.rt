@@ -81,6 +81,7 @@ pub(crate) fn weighted_sum<L: Weighted>(lines: &[L]) -> i128
 }
 
 /// The sum of the weights of a lawful list.
+#[tactic(auto, unfolding(crate::specs::Kinds::weights))]
 pub(crate) fn weights<L: Weighted>(lines: &[L]) -> u64
     requires { Lawful L.Weighted.kind lines.now }
     ensures { result ≡ weights L.Weighted.kind lines.now }

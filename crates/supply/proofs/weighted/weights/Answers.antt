@@ -1,5 +1,4 @@
 use Rattle.std.proofs.Common.{arith, rules, tests}
-use Rattle.std.proofs.lemmas.Grind.{common_steps}
 use Rattle.std.proofs.lemmas.Iterator.{YieldsList-from_map, YieldsList-from_slice}
 use Rattle.std.proofs.lemmas.Iterator.Consumers.{YieldsList-at, fits_by_from_yields_list}
 use Rattle.supply.specs.Kinds.{weights}
@@ -14,7 +13,3 @@ sum-requires-clause-fits g c =
     fits_by_from_yields_list kind.weight c.args.lines.now c.map.result _
     (YieldsList-from_map _ kind.weight (YieldsList-at c.map.ensures.source (YieldsList-from_slice c.args.lines.now (cc))) c.map.ensures.closure (λ x r q k. search (rules, tests)))
     (omega arith)
-
-pub returns : goal.returns
-unfolding weights
-returns g c = grind (arith, common_steps)
