@@ -1,6 +1,5 @@
 -- The figures of an account agree with its journal.
-use Rattle.std.proofs.Common.{◌≡◌, ℕ, zero, suc, ◌+◌, ◌-◌, ◌<◌, ◌≤◌, true, false, cond, ◌||◌, eqb, ltb, List, [], ◌∷◌, length, get_or, set, ℤ, pos, ◌+ℤ◌, nat_abs, is_ok, Some, None, fold, Option, Result, sym, refl, ap, ◌∙◌, subst, arith, lit≤, ltb-false, eq-eqb, eqb-true}
-use Rattle.std.specs.Int.Signed.{lt_z}
+use Rattle.std.proofs.Common.{◌≡◌, ℕ, zero, suc, ◌+◌, ◌-◌, ◌<◌, ◌≤◌, true, false, cond, ◌||◌, eqb, ltb, List, [], ◌∷◌, length, get_or, set, ℤ, pos, ◌+ℤ◌, nat_abs, is_ok, Some, None, fold, Option, Result, sym, refl, ap, ◌∙◌, subst, arith, lit≤, ltb-false, eq-eqb, eqb-true, int_lt}
 use Rattle.std.proofs.lemmas.Int.{ints}
 use Rattle.std.proofs.lemmas.Bool.{not-false, both_ways}
 use Rattle.std.proofs.lemmas.Option.{none-some}
@@ -247,7 +246,7 @@ at_opening {D} o f h = subst P h.1 start refl
     start : P (open_rule h.0 o)
     start =
         by_checks P (open_checks o) tt h.0 (opened o) (λ _ e. absurd (both_ways false refl e)) λ passed _.
-        let t = or_false (lt_z o.tax (pos 0)) (lt_z (pos 2000) o.tax) (or_false (outside 0 2000 o.tax) _ passed.0).0 in
+        let t = or_false (int_lt o.tax (pos 0)) (int_lt (pos 2000) o.tax) (or_false (outside 0 2000 o.tax) _ passed.0).0 in
         record {
           terms = record { tax = refl; under = refl; over = refl; tax_high = omega (arith, ints, t) };
           rate = record { design = refl; e = refl; reach = lit≤ tt };

@@ -39,6 +39,7 @@ pub fn first_term<D: RateDesign + Drop>(
 }
 
 /// How many billed months the term worked by hand has; to its sums the definitions that the laws speak of are held.
+#[tactic(auto, using(crate::proofs::ByHand::by_hand))]
 pub fn worked_months() -> u32
     ensures worked { Worked }
     ensures months { result ≡ billed_months worked_term }

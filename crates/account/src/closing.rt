@@ -46,6 +46,7 @@ impl<D> Account<D> {
     }
 
     /// What closing the open month tells, or the refusal of a balance too large in size.
+    #[tactic(auto, using(crate::proofs::Balances::charge_within, crate::proofs::Balances::after_fits))]
     fn closing(&self) -> Result<Closing, Refusal>
         ensures rule { result ≡ answer_unless (first (balance_checks self.now.figures.terms self.now.figures.ledger)) (closing_of self.now.figures.terms self.now.figures.ledger) }
         ensures small { MatchResult result (λ k. unsigned_abs k.balance.0 ≤ most_balance) (λ _. Unit) }
