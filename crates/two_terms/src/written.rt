@@ -55,6 +55,7 @@ fn signed<W: fmt::Write>(f: &mut fmt::Formatter<W>, number: i64, places: u32) ->
 }
 
 /// Writes a number with its last `places` digits after the decimal point.
+#[tactic(auto, using(rounding::proofs::Tens::ten_some, rounding::proofs::Tens::ten_fits))]
 fn decimal<W: fmt::Write>(f: &mut fmt::Formatter<W>, number: u128, places: u32) -> fmt::Result
     requires { places ≤ 38 }
 {
