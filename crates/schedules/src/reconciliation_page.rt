@@ -39,6 +39,7 @@ pub struct EWorked {
 
 impl ReconciliationPage {
     /// Each line from the figures that the sheet prints above it. What is promised is what the lines are where no figure is refused.
+    #[tactic(auto, unfolding(crate::specs::Rates::e_worked))]
     pub fn worked(&self, tax: TaxRate) -> Result<EWorked, Refused>
         ensures { IfOk result (λ lines. lines ≡ e_worked self.now tax.value) }
     {

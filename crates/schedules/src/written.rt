@@ -27,6 +27,7 @@ impl fmt::Display for Figure {
 }
 
 /// A number with its last `places` digits after the decimal point, and a comma before each three digits of the rest.
+#[tactic(auto, using(rounding::proofs::Tens::ten_some, rounding::proofs::Tens::ten_fits))]
 fn decimal<W: fmt::Write>(f: &mut fmt::Formatter<W>, number: u128, places: u32) -> fmt::Result
     requires { places ≤ 38 }
 {

@@ -1,6 +1,6 @@
 use Rattle.std.proofs.Common.{◌≡◌, ℕ, ℤ, ◌+ℤ◌, ◌-ℤ◌, arith, to_z-of_z, w32, w64, SFits, to_z, of_z, rules}
-use borrow.Author.Differences.{ints}
-use mir.Syntax.{w128}
+use Rattle.std.proofs.lemmas.Int.{ints}
+use Rattle.std.specs.Int.{w128}
 use Rattle.reconciliation.specs.Reconciliation.{net_of, tax_on}
 use Rattle.schedules.specs.declared.months.Month.{Month}
 use Rattle.schedules.specs.declared.months.MonthWorked.{MonthWorked}
@@ -35,48 +35,9 @@ overflow_add-before c =
     let b : SFits w64 c.carrying_charge-interest.result.0 = search rules in
     omega (arith, ints)
 
-module _ (c : goal.After-dollars-4) where
-  tax_line : to_z w64 (of_z w64 c.dollars.result) ≡ in_dollars (tax_on (in_cents c.args.self.now.revenue) c.args.rates.tax.value)
-  tax_line =
-      let a = to_z-of_z {w = w64} {z = c.dollars.result} (record { sfits = c.dollars.type_inv }) in
-      let b = wide c.tax.result.0 (search rules) in
-      let d = to_z-of_z {w = w32} {z = c.args.self.now.revenue} (search rules) in
-      let e = to_z-of_z {w = w64} {z = c.cents-total.result.0} (search rules) in
-      cc (c.dollars.ensures, c.tax.ensures, c.cents-total.ensures)
-
-  net_line : to_z w64 (of_z w64 c.dollars-2.result) ≡ in_dollars (net_of (in_cents c.args.self.now.revenue) c.args.rates.tax.value)
-  net_line =
-      let a = to_z-of_z {w = w64} {z = c.dollars-2.result} (record { sfits = c.dollars-2.type_inv }) in
-      let b = wide c.net.result.0 (search rules) in
-      let d = to_z-of_z {w = w32} {z = c.args.self.now.revenue} (search rules) in
-      let e = to_z-of_z {w = w64} {z = c.cents-total.result.0} (search rules) in
-      cc (c.dollars-2.ensures, c.net.ensures, c.cents-total.ensures)
-
-  charge : c.carrying_charge-interest.result.0 ≡ interest_of c.args.self.now c.args.rates.under.value c.args.rates.over.value
-  charge =
-      let a = to_z-of_z {w = w32} {z = c.args.self.now.last} (search rules) in
-      let b = to_z-of_z {w = w32} {z = c.args.self.now.before} (search rules) in
-      let d = to_z-of_z {w = w64} {z = c.cents.result.0} (search rules) in
-      let e = to_z-of_z {w = w64} {z = c.cents-before.result.0} (search rules) in
-      cc (c.carrying_charge-interest.ensures, c.cents.ensures, c.cents-before.ensures)
-
-  interest_line : to_z w64 (of_z w64 c.dollars-3.result) ≡ in_dollars (interest_of c.args.self.now c.args.rates.under.value c.args.rates.over.value)
-  interest_line =
-      let a = to_z-of_z {w = w64} {z = c.dollars-3.result} (record { sfits = c.dollars-3.type_inv }) in
-      let b = wide c.carrying_charge-interest.result.0 (search rules) in
-      cc (c.dollars-3.ensures, charge)
-
-  end_line : to_z w64 (of_z w64 c.dollars-4.result)
-      ≡ in_dollars (in_cents c.args.self.now.before +ℤ interest_of c.args.self.now c.args.rates.under.value c.args.rates.over.value)
-  end_line =
-      let a = to_z-of_z {w = w64} {z = c.dollars-4.result} (record { sfits = c.dollars-4.type_inv }) in
-      let b = wide_sum c.cents-before.result.0 c.carrying_charge-interest.result.0 (search rules) (search rules) in
-      let d = to_z-of_z {w = w32} {z = c.args.self.now.before} (search rules) in
-      cc (c.dollars-4.ensures, charge, c.cents-before.ensures)
-
 pub returns : goal.returns
 returns c =
     let a : SFits w32 c.args.self.now.last = search rules in
     let b : SFits w32 c.args.self.now.expenses = search rules in
     let d : SFits w32 c.args.self.now.net = search rules in
-    joined c.args.self.now _ _ _ _ _ _ _ _ (tax_line c) (net_line c) (omega (arith, ints)) (interest_line c) (end_line c)
+    joined c.args.self.now _ _ _ _ _ _ _ _ (grind (arith, to_z-of_z, wide)) (grind (arith, to_z-of_z, wide)) (omega (arith, ints)) (grind (arith, to_z-of_z, wide)) (grind (arith, to_z-of_z, wide_sum))
