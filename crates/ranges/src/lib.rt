@@ -23,7 +23,7 @@ impl<const LOW: u64, const HIGH: u64> TryFrom<i64> for Ranged<LOW, HIGH> {
 
     fn try_from(given: i64) -> Result<Ranged<LOW, HIGH>, OutOfRange> {
         match u64::try_from(given) {
-            Ok(value) if LOW <= value && value <= HIGH => Ok(Ranged { value }),
+            Ok(value) if (LOW..=HIGH).contains(&value) => Ok(Ranged { value }),
             _ => Err(OutOfRange),
         }
     }
