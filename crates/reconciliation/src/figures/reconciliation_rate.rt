@@ -19,7 +19,7 @@ impl ReconciliationRate {
     pub(crate) fn within_reach(units: i128) -> Result<ReconciliationRate, Refusal>
         ensures { MatchResult result (λ e. (e.units ≡ units) × WithinReach units) (λ e. (e ≡ Refusal.RateTooLarge) × (WithinReach units → ⊥)) }
     {
-        if units < -100_000 || units > 100_000 {
+        if !(-100_000..=100_000).contains(&units) {
             return Err(Refusal::RateTooLarge);
         }
         Ok(ReconciliationRate {
