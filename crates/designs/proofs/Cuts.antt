@@ -1,9 +1,10 @@
 -- What the checks of a period say of it, one hour at a time and as a whole.
 use Rattle.std.proofs.Common.{◌≡◌, ℕ, ◌+◌, ◌≤◌, All, List, [], ◌∷◌, length, drop, pos, neg_ℤ, Some, None, Ok, Err, Option, refl, ◌∙◌, arith, length-drop, length-take, int_lt}
+use Rattle.std.proofs.lemmas.Bool.{or_parts}
 use Rattle.std.proofs.lemmas.Int.{ints}
 use Rattle.std.proofs.lemmas.List.Elements.{All-cons, All-from_get_or, All-get_or, All-head, All-nil, All-tail}
-use Rattle.refusals.proofs.Passed.{passed, none_refuses, or_false}
 use Rattle.refusals.specs.Checks.{first, answer_unless}
+use Rattle.refusals.proofs.Passed.{passed, none_refuses}
 use Rattle.designs.specs.declared.hours.Hour.{Hour}
 use Rattle.designs.specs.declared.refusal.PeriodRefusal.{PeriodRefusal}
 use Rattle.designs.specs.Cutting.{hour_checks, period_checks, part_of, Unlawful}
@@ -26,7 +27,7 @@ pub pass_all : (place : ℕ) (hours : List Hour) → refused_from place hours �
 pass_all place [] none = All-nil LawfulHour
 pass_all place (h ∷ hours) none =
     let each = passed (hour_checks place (h ∷ hours)) none in
-    let price = or_false (int_lt h.price.0 (neg_ℤ (pos 100000))) (int_lt (pos 400000) h.price.0) each.1.0 in
+    let price = or_parts (int_lt h.price.0 (neg_ℤ (pos 100000))) (int_lt (pos 400000) h.price.0) each.1.0 in
     All-cons LawfulHour h hours (grind arith, grind (arith, ints), grind (arith, ints)) (pass_all (place + 1) hours (none_refuses (hour_checks (place + 1) hours) each.1.1))
 
 -- hours in range, at each place

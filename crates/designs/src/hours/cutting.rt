@@ -30,7 +30,7 @@ fn check_hours(hours: &[Hour]) -> Result<(), PeriodRefusal>
         if hour.kwh > 100_000 {
             return Err(PeriodRefusal::EnergyTooLarge { hour: place });
         }
-        if hour.price.0 < -100_000 || hour.price.0 > 400_000 {
+        if !(-100_000..=400_000).contains(&hour.price.0) {
             return Err(PeriodRefusal::PriceOutOfRange { hour: place });
         }
     }
