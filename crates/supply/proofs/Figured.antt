@@ -1,7 +1,7 @@
 -- What the tests of figures say.
 use Rattle.std.proofs.Common.{◌≡◌, ℕ, Bool, false, List, ℤ, pos, ◌≤ℤ◌, arith}
-use Rattle.std.proofs.lemmas.Int.{ints}
 use Rattle.std.specs.List.{All, list_any}
+use Rattle.std.proofs.lemmas.Int.{ints}
 use Rattle.std.proofs.lemmas.List.Folds.{list_any_at}
 use Rattle.std.proofs.lemmas.List.Elements.{All-weaker}
 use Rattle.supply.specs.Figures.{factor_out, outside, price_out, printed_out, share_out}

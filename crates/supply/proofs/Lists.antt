@@ -1,15 +1,15 @@
 -- What the tests of a list of lines say, and the bounds of a lawful list's sums.
-use Rattle.std.proofs.Common.{Ok, Result, ◌≡◌, ℕ, ◌+◌, ◌*◌, ◌<◌, ◌≤◌, false, List, [], ◌∷◌, length, ℤ, pos, negsuc, nat_abs, ◌+ℤ◌, ◌*ℤ◌, ◌≤ℤ◌, fold, arith}
-use Rattle.std.proofs.lemmas.Int.{ints}
+use Rattle.std.proofs.Common.{◌≡◌, ℕ, ◌+◌, ◌*◌, ◌<◌, ◌≤◌, false, List, [], ◌∷◌, length, ℤ, pos, negsuc, nat_abs, ◌+ℤ◌, ◌*ℤ◌, ◌≤ℤ◌, fold, Ok, Result, arith}
 use Rattle.std.specs.List.{All}
+use Rattle.std.proofs.lemmas.Int.{ints}
 use Rattle.std.proofs.lemmas.Bool.Decides.{nat_tests}
 use Rattle.std.proofs.lemmas.Nat.{mul-le}
 use Rattle.std.proofs.lemmas.List.Elements.{All-head, All-tail, All-weaker}
 use Rattle.std.proofs.lemmas.List.Sums.{sum_by-cons, sum_by-le}
 use Rattle.refusals.specs.Checks.{answer_unless, first}
 use Rattle.supply.specs.declared.refusal.Refusal.{Refusal}
-use Rattle.supply.proofs.Figured.{none_passes, price_inside}
 use Rattle.supply.specs.Kinds.{Kind, Lawful, line_out, lines_checks, some_out, weighted_sum, weights, wrong_count}
+use Rattle.supply.proofs.Figured.{none_passes, price_inside}
 
 -- a line in range
 pub record InRange {L : Type 0} (kind : Kind L) (line : L) : Type 0 where

@@ -1,16 +1,19 @@
 -- A lawful sheet: its terms, the range of each line, and that the single lines in a row give the whole.
-use Rattle.std.proofs.Common.{◌≡◌, ℕ, ◌+◌, ◌≤◌, false, List, length, ℤ, ◌+ℤ◌, sym, arith}
+use Rattle.std.proofs.Common.{◌≡◌, ℕ, ◌+◌, ◌≤◌, false, List, length, ℤ, ◌+ℤ◌, Ok, Result, arith}
+use Rattle.std.specs.List.{list_any}
 use Rattle.std.proofs.lemmas.Int.{ints}
+use Rattle.refusals.specs.Checks.{answer_unless, first}
+use Rattle.rounding.proofs.Widths.{in64}
 use Rattle.supply.specs.declared.blocks.Block.{Block}
+use Rattle.supply.specs.declared.refusal.Refusal.{Refusal}
 use Rattle.supply.specs.declared.tranches.Tranche.{Tranche}
 use Rattle.supply.specs.declared.terms.Terms.{Terms}
 use Rattle.supply.specs.Figures.{price_out, printed_out, share_out}
-use Rattle.std.specs.List.{list_any}
-use Rattle.supply.specs.Kinds.{Lawful, some_out, wrong_count}
+use Rattle.supply.specs.Kinds.{Lawful}
 use Rattle.supply.specs.Lines.{a_block, a_tranche}
-use Rattle.supply.specs.Schedule.{LineByLine, block_average, lines_of, part_of, rest_of, subtotal_of, tranche_average}
+use Rattle.supply.specs.Schedule.{LineByLine, block_average, lines_of, part_of, rest_of, sheet_checks, subtotal_of, tranche_average}
 use Rattle.supply.specs.Terms.{seasons_out, terms_out}
-use Rattle.supply.proofs.Bits.{bits, same}
+use Rattle.supply.proofs.Bits.{same}
 use Rattle.supply.proofs.Figured.{Between, price_inside, prices_inside, printed, share_inside}
 use Rattle.supply.proofs.Sizes.{block_average_between, part_between, rest_between, summed, tranche_average_between}
 
@@ -120,19 +123,19 @@ module _ (tranches : List Tranche) (blocks : List Block) (terms : Terms) where
   -- the calls in a row answer the sheet's lines, each of which the code hands on as it is
   pub record Row : Type 0 where
     pub lines : LineByLine tranches blocks terms (lines_of tranches blocks terms)
-    pub tranche_share : bits terms.tranche_share ≡ terms.tranche_share
-    pub fixed_share : bits terms.fixed_share ≡ terms.fixed_share
-    pub variable_price : bits terms.variable_price ≡ terms.variable_price
-    pub same_1 : bits (lines_of tranches blocks terms).tranche_average ≡ (lines_of tranches blocks terms).tranche_average
-    pub same_2 : bits (lines_of tranches blocks terms).tranche_part ≡ (lines_of tranches blocks terms).tranche_part
-    pub same_3 : bits (lines_of tranches blocks terms).block_average ≡ (lines_of tranches blocks terms).block_average
-    pub same_fixed : bits (lines_of tranches blocks terms).fixed_part ≡ (lines_of tranches blocks terms).fixed_part
-    pub same_variable : bits (lines_of tranches blocks terms).variable_part ≡ (lines_of tranches blocks terms).variable_part
-    pub same_5 : bits (lines_of tranches blocks terms).block_subtotal ≡ (lines_of tranches blocks terms).block_subtotal
-    pub same_6 : bits (lines_of tranches blocks terms).block_part ≡ (lines_of tranches blocks terms).block_part
-    pub same_7 : bits (lines_of tranches blocks terms).cost_component ≡ (lines_of tranches blocks terms).cost_component
+    pub tranche_share : in64 terms.tranche_share ≡ terms.tranche_share
+    pub fixed_share : in64 terms.fixed_share ≡ terms.fixed_share
+    pub variable_price : in64 terms.variable_price ≡ terms.variable_price
+    pub same_1 : in64 (lines_of tranches blocks terms).tranche_average ≡ (lines_of tranches blocks terms).tranche_average
+    pub same_2 : in64 (lines_of tranches blocks terms).tranche_part ≡ (lines_of tranches blocks terms).tranche_part
+    pub same_3 : in64 (lines_of tranches blocks terms).block_average ≡ (lines_of tranches blocks terms).block_average
+    pub same_fixed : in64 (lines_of tranches blocks terms).fixed_part ≡ (lines_of tranches blocks terms).fixed_part
+    pub same_variable : in64 (lines_of tranches blocks terms).variable_part ≡ (lines_of tranches blocks terms).variable_part
+    pub same_5 : in64 (lines_of tranches blocks terms).block_subtotal ≡ (lines_of tranches blocks terms).block_subtotal
+    pub same_6 : in64 (lines_of tranches blocks terms).block_part ≡ (lines_of tranches blocks terms).block_part
+    pub same_7 : in64 (lines_of tranches blocks terms).cost_component ≡ (lines_of tranches blocks terms).cost_component
 
-  handed : (k : ℕ) (z : ℤ) → k ≤ 4000000 → Between 0 k z → bits z ≡ z
+  handed : (k : ℕ) (z : ℤ) → k ≤ 4000000 → Between 0 k z → in64 z ≡ z
   handed k z h x = same z (wider k 4000000 z h x)
 
   pub in_a_row : LawfulSheet tranches blocks terms → Row
@@ -153,8 +156,9 @@ module _ (tranches : List Tranche) (blocks : List Block) (terms : Terms) where
         same_7 = handed 700000 (line_2 +ℤ line_6) (omega arith) (sum_between 200000 500000 line_2 line_6 (low_2 ok) (low_6 ok));
       }
 
--- what a sheet that passes its tests has
-pub row : {tranches : List Tranche} {blocks : List Block} {terms : Terms} → false ≡ wrong_count tranches → false ≡ wrong_count blocks → false ≡ some_out a_tranche tranches → false ≡ some_out a_block blocks
-    → false ≡ terms_out terms → length terms.adders ≡ 3 → Row tranches blocks terms
-row {tranches} {blocks} {terms} t0 b0 t1 b1 x three =
-    in_a_row tranches blocks terms (record { tranches = (sym t0, sym t1); blocks = (sym b0, sym b1); terms = in_terms terms (sym x); three = three })
+-- what a sheet that no check refuses has
+pub row : (tranches : List Tranche) (blocks : List Block) (terms : Terms) → ◌≡◌ {A = Result (Unit {0}) Refusal} (Ok tt) (answer_unless (first (sheet_checks tranches blocks terms)) tt) → length terms.adders ≡ 3
+    → Row tranches blocks terms
+row tranches blocks terms passed three =
+    let x : terms_out terms ≡ false = grind arith in
+    in_a_row tranches blocks terms (record { tranches = (grind arith, grind arith); blocks = (grind arith, grind arith); terms = in_terms terms x; three = three })

@@ -1,5 +1,6 @@
 -- The lines of a supply schedule in cents per MWh, each rounded and then used as printed, and when they are refused.
 use Rattle.std.specs.Prelude.{◌≡◌, ◌*◌, ◌||◌, List, [], ◌∷◌, ◌++◌, ℤ, pos, ◌+ℤ◌, ◌-ℤ◌, ◌*ℤ◌, Ok, fold, Result}
+use Rattle.std.specs.List.{list_any}
 use Rattle.refusals.specs.Checks.{Checks, answer_unless, first}
 use Rattle.rounding.specs.Rounding.{rate_rounded}
 use Rattle.supply.specs.declared.blocks.Block.{Block}
@@ -10,7 +11,6 @@ use Rattle.supply.specs.declared.schedule.SupplyLines.{SupplyLines}
 use Rattle.supply.specs.declared.terms.Seasons.{Seasons}
 use Rattle.supply.specs.declared.terms.Terms.{Terms}
 use Rattle.supply.specs.Figures.{price_out, printed_out, share_out}
-use Rattle.std.specs.List.{list_any}
 use Rattle.supply.specs.Kinds.{lines_checks, some_out, weighted_sum, weights, wrong_count}
 use Rattle.supply.specs.Lines.{a_block, a_tranche}
 use Rattle.supply.specs.Terms.{seasons_out, terms_out}

@@ -1,9 +1,9 @@
 -- The ranges of a schedule's terms.
 use Rattle.std.specs.Prelude.{◌+◌, Bool, not, ◌||◌, ◌==◌}
+use Rattle.std.specs.List.{list_any}
 use Rattle.supply.specs.declared.terms.Seasons.{Seasons}
 use Rattle.supply.specs.declared.terms.Terms.{Terms}
 use Rattle.supply.specs.Figures.{factor_out, price_out, share_out}
-use Rattle.std.specs.List.{list_any}
 
 -- A season's factor is out of range, or the months do not add to 3.
 unfoldable pub seasons_out : Seasons → Bool

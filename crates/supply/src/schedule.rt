@@ -1,8 +1,9 @@
 //! The lines of a schedule in cents per MWh, one by one and as a whole.
 ghost use Rattle.std.specs.Prelude.{◌≡◌, false, IfOk};
+ghost use Rattle.refusals.specs.Checks.{answer_unless, first};
 ghost use Rattle.supply.specs.Kinds.{AmongPrices};
 ghost use Rattle.supply.specs.Lines.{a_block};
-ghost use Rattle.supply.specs.Schedule.{LineByLine, block_average_answer, component_answer, rest_answer, schedule_answer, season_weight, share_answer, subtotal_answer, tranche_average_answer};
+ghost use Rattle.supply.specs.Schedule.{LineByLine, block_average_answer, component_answer, rest_answer, schedule_answer, season_weight, share_answer, sheet_checks, subtotal_answer, tranche_average_answer};
 ghost use Rattle.supply.specs.Terms.{seasons_out};
 
 use crate::figures::{adders_out, printed_out, seasons_out, share_out, terms_out};
@@ -31,14 +32,9 @@ pub struct SupplyLines {
     pub cost_component: CentsPerMwh,
 }
 
-/// The whole schedule: both lists' counts are checked first, then the lines of both, then the terms.
-pub fn supply_schedule(
-    tranches: &[Tranche],
-    blocks: &[Block],
-    terms: &Terms,
-) -> Result<SupplyLines, Refusal>
-    ensures answer { result ≡ schedule_answer tranches.now blocks.now terms.now }
-    ensures in_a_row { IfOk result (LineByLine tranches.now blocks.now terms.now) }
+/// The refusal of a sheet: both lists' counts are checked first, then the lines of both, then the terms.
+fn check_sheet(tranches: &[Tranche], blocks: &[Block], terms: &Terms) -> Result<(), Refusal>
+    ensures { result ≡ answer_unless (first (sheet_checks tranches.now blocks.now terms.now)) tt }
 {
     if wrong_count(tranches) || wrong_count(blocks) {
         return Err(Refusal::LineCount);
@@ -49,6 +45,19 @@ pub fn supply_schedule(
     if terms_out(terms) {
         return Err(Refusal::TermOutOfRange);
     }
+    Ok(())
+}
+
+/// The whole schedule.
+pub fn supply_schedule(
+    tranches: &[Tranche],
+    blocks: &[Block],
+    terms: &Terms,
+) -> Result<SupplyLines, Refusal>
+    ensures answer { result ≡ schedule_answer tranches.now blocks.now terms.now }
+    ensures in_a_row { IfOk result (LineByLine tranches.now blocks.now terms.now) }
+{
+    check_sheet(tranches, blocks, terms)?;
     // None of these calls refuses: each line of a lawful sheet is in range of what is worked from it.
     let tranche_average = tranche_average(tranches, terms.seasons).unwrap();
     let tranche_part = share_of(tranche_average, terms.tranche_share).unwrap();
@@ -83,7 +92,7 @@ pub fn tranche_average(tranches: &[Tranche], seasons: Seasons) -> Result<CentsPe
 }
 
 /// Each season's factor by its months.
-#[tactic(auto, using(crate::proofs::Bits::seasons_worked), unfolding(crate::specs::Figures::outside, crate::specs::Terms::seasons_out))]
+#[tactic(auto, using(crate::proofs::Steps::seasons_worked), unfolding(crate::specs::Figures::outside, crate::specs::Terms::seasons_out))]
 fn season_weight(seasons: Seasons) -> i128
     requires { seasons_out seasons ≡ false }
     ensures { result ≡ season_weight seasons }

@@ -4,7 +4,7 @@ use Rattle.std.proofs.lemmas.Iterator.{YieldsList-from_slice}
 use Rattle.std.proofs.lemmas.Iterator.Adapters.{total_from_yields_List}
 use Rattle.std.proofs.lemmas.List.Elements.{All-weaker}
 use Rattle.rounding.proofs.Sums.{sums_fit}
-use Rattle.supply.proofs.Bits.{Subtotal, subtotal_worked}
+use Rattle.supply.proofs.Steps.{Subtotal, subtotal_worked}
 use Rattle.supply.proofs.Figured.{Between, prices_inside}
 use Rattle.supply.proofs.schedule.block_subtotal.Goals as goal
 

@@ -1,5 +1,5 @@
 use Rattle.std.proofs.Common.{arith}
-use Rattle.supply.proofs.Bits.{part_steps}
+use Rattle.supply.proofs.Steps.{part_steps}
 use Rattle.supply.proofs.schedule.share_of.Goals as goal
 
 pub overflow_cast-result : goal.overflow_cast-result

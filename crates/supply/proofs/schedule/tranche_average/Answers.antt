@@ -1,5 +1,5 @@
 use Rattle.std.proofs.Common.{arith}
-use Rattle.supply.proofs.Bits.{tranche_steps}
+use Rattle.supply.proofs.Steps.{tranche_steps}
 use Rattle.supply.proofs.schedule.tranche_average.Goals as goal
 
 pub overflow_mul-weighted : goal.overflow_mul-weighted
