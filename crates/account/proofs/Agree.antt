@@ -1,16 +1,16 @@
 -- The figures of an account agree with its journal.
 use Rattle.std.proofs.Common.{◌≡◌, ℕ, zero, suc, ◌+◌, ◌-◌, ◌<◌, ◌≤◌, true, false, cond, ◌||◌, eqb, ltb, List, [], ◌∷◌, length, get_or, set, ℤ, pos, ◌+ℤ◌, nat_abs, is_ok, Some, None, fold, Option, Result, sym, refl, ap, ◌∙◌, subst, arith, lit≤, ltb-false, eq-eqb, eqb-true, int_lt}
 use Rattle.std.proofs.lemmas.Int.{ints}
-use Rattle.std.proofs.lemmas.Bool.{not-false, both_ways}
+use Rattle.std.proofs.lemmas.Bool.{and_parts, not-false, both_ways, or_parts}
 use Rattle.std.proofs.lemmas.Option.{none-some}
 use Rattle.std.proofs.lemmas.List.{length-set}
-use Rattle.designs.specs.Cutting.{part_of}
-use Rattle.designs.specs.Meanings.{Meaning}
-use Rattle.designs.specs.declared.hours.Hour.{Hour}
+use Rattle.refusals.proofs.Passed.{Passed, by_checks}
+use Rattle.reconciliation.specs.declared.figures.Cents.{Cents}
 use Rattle.reconciliation.specs.Figures.{WithinReach}
 use Rattle.reconciliation.specs.Reconciliation.{rate_of}
-use Rattle.reconciliation.specs.declared.figures.Cents.{Cents}
-use Rattle.refusals.proofs.Passed.{Passed, by_checks, or_false, and_true}
+use Rattle.designs.specs.declared.hours.Hour.{Hour}
+use Rattle.designs.specs.Cutting.{part_of}
+use Rattle.designs.specs.Meanings.{Meaning}
 use Rattle.account.specs.declared.answers.Billed.{Billed}
 use Rattle.account.specs.declared.figures.CostLine.{CostLine}
 use Rattle.account.specs.declared.figures.Figures.{Figures}
@@ -99,14 +99,14 @@ costs_entered lines i amount h =
     omega (arith, ints, folded_from (pos 0) (set lines i (entered (get_or lines i no_entries) amount)), folded_from (pos 0) lines, total_entered lines i amount h)
 
 pub in_range : (kind : ℕ) → (ltb kind 1 || ltb 8 kind) ≡ false → kind - 1 < 8
-in_range kind e = let h = or_false (ltb kind 1) (ltb 8 kind) e in omega (arith, ltb-false kind 1 h.0, ltb-false 8 kind h.1)
+in_range kind e = let h = or_parts (ltb kind 1) (ltb 8 kind) e in omega (arith, ltb-false kind 1 h.0, ltb-false 8 kind h.1)
 
 -- ---- a filing
 
 -- a token of the pending filing has its number
 is_recorded : {D : Type 0} (f : Figures D) (filing : Filing) (pending : Option Pending) → is_pending f filing pending ≡ true → (pending ≡ Some (recorded pending)) × (filing.number ≡ (recorded pending).number)
 is_recorded f filing None h = absurd (both_ways false refl h)
-is_recorded f filing (Some p) h = (refl, eqb-true _ _ (and_true (eqb filing.account f.terms.account) (eqb filing.number p.number) h).1)
+is_recorded f filing (Some p) h = (refl, eqb-true _ _ (and_parts (eqb filing.account f.terms.account) (eqb filing.number p.number) h).1)
 
 -- ---- each call
 
@@ -246,7 +246,7 @@ at_opening {D} o f h = subst P h.1 start refl
     start : P (open_rule h.0 o)
     start =
         by_checks P (open_checks o) tt h.0 (opened o) (λ _ e. absurd (both_ways false refl e)) λ passed _.
-        let t = or_false (int_lt o.tax (pos 0)) (int_lt (pos 2000) o.tax) (or_false (outside 0 2000 o.tax) _ passed.0).0 in
+        let t = or_parts (int_lt o.tax (pos 0)) (int_lt (pos 2000) o.tax) (or_parts (outside 0 2000 o.tax) _ passed.0).0 in
         record {
           terms = record { tax = refl; under = refl; over = refl; tax_high = omega (arith, ints, t) };
           rate = record { design = refl; e = refl; reach = lit≤ tt };

@@ -1,16 +1,13 @@
 -- The balance as the code works it, in 64 bits.
-use Rattle.std.proofs.Common.{◌≡◌, ℕ, ◌≤◌, ℤ, ◌+ℤ◌, ◌-ℤ◌, nat_abs, arith, w64, SFits, to_z, of_z}
-use Rattle.reconciliation.proofs.Sizes.{carrying_high, tax_within}
-use Rattle.reconciliation.specs.Reconciliation.{carrying_charge, net_of}
+use Rattle.std.proofs.Common.{◌≡◌, ℕ, ◌≤◌, ℤ, ◌+ℤ◌, ◌-ℤ◌, nat_abs, arith, w64, SFits}
 use Rattle.std.proofs.lemmas.Int.{ints}
+use Rattle.rounding.proofs.Widths.{in64}
+use Rattle.reconciliation.specs.Reconciliation.{carrying_charge, net_of}
+use Rattle.reconciliation.proofs.Sizes.{carrying_high, tax_within}
 
 -- a month's bills net of tax are no larger than its bills
 pub net_within : (billed : ℤ) (tax : ℕ) → tax ≤ 2000 → nat_abs (net_of billed tax) ≤ nat_abs billed
 net_within billed tax low = omega (arith, tax_within billed tax low)
-
--- a number as the code keeps it
-abbrev in64 : ℤ → ℤ
-in64 z = to_z w64 (of_z w64 z)
 
 module _ (last costs net : ℤ) (hl : nat_abs last ≤ 10000000000000) (hc : nat_abs costs ≤ 8000000000000000) (hn : nat_abs net ≤ 1000000000000000) where
   pub sum_fits : SFits w64 (in64 (in64 last +ℤ in64 costs) -ℤ in64 net)

@@ -1,12 +1,12 @@
 -- How far bills net of tax stray from base charges and E, summed over months.
 use Rattle.std.proofs.Common.{◌≡◌, ℕ, ◌+◌, ◌-◌, ◌*◌, ◌≤◌, List, [], ◌∷◌, length, ℤ, pos, ◌+ℤ◌, ◌-ℤ◌, ◌*ℤ◌, sym, refl, ap, ◌∙◌, mul-suc, mul-add, arith, lit<}
-use Rattle.std.proofs.lemmas.Int.{ints}
 use Rattle.std.specs.List.{AllByRecursion}
-use Rattle.designs.specs.Meanings.{rate_units_per_cent}
-use Rattle.reconciliation.specs.Reconciliation.{net_of, rate_of, tax_on}
+use Rattle.std.proofs.lemmas.Int.{ints}
 use Rattle.rounding.specs.Rounding.{gap, money_rounded, rate_rounded}
 use Rattle.rounding.proofs.Gaps.{times_sum}
 use Rattle.rounding.proofs.Near.{money_near, rate_near}
+use Rattle.reconciliation.specs.Reconciliation.{net_of, rate_of, tax_on}
+use Rattle.designs.specs.Meanings.{rate_units_per_cent}
 use Rattle.account.specs.Journal.{Bill, Filed, Month, sum_of, total_of, quantity_in, net_in, e_of}
 use Rattle.account.specs.Laws.{one_if_any, bills_allowance, months_allowance, rates_allowance, quantity_allowance, difference}
 use Rattle.account.proofs.Whole.{sum_times, product_times, gap_times}

@@ -1,8 +1,8 @@
 -- The sums and laws worked by hand come out.
 use Rattle.std.proofs.Common.{◌≡◌, ℕ, false, [], ◌∷◌, refl, arith, lit≤}
 use Rattle.std.proofs.lemmas.List.Elements.{All-from_recursion}
-use Rattle.reconciliation.specs.Reconciliation as reconciliation
 use Rattle.rounding.specs.Rounding as rounding
+use Rattle.reconciliation.specs.Reconciliation as reconciliation
 use Rattle.account.specs.Journal.{Entry}
 use Rattle.account.specs.Journal.Entry.{forced, filed}
 use Rattle.account.specs.Laws.{is_force}

@@ -2,8 +2,8 @@
 use Rattle.std.proofs.Common.{◌≡◌, ℕ, ◌+◌, Bool, true, false, [], ◌∷◌, length, Some, Ok, Err, Result, sym, refl, arith, rules}
 use Rattle.std.specs.Result.{result_ok}
 use Rattle.std.proofs.lemmas.List.Elements.{All-from_recursion}
-use Rattle.designs.specs.Meanings.{Meaning}
 use Rattle.reconciliation.specs.declared.figures.RateUnits.{RateUnits}
+use Rattle.designs.specs.Meanings.{Meaning}
 use Rattle.account.specs.declared.answers.Billed.{Billed}
 use Rattle.account.specs.declared.answers.Closing.{Closing}
 use Rattle.account.specs.declared.answers.Reading.{Reading}
@@ -18,8 +18,8 @@ use Rattle.account.specs.FirstTerm.{Asked, Ran, second_filing, term_made, until_
 use Rattle.account.specs.Journal.{Entry, Journal, added, journal, own_filing}
 use Rattle.account.specs.Laws.{EveryRun, Laws, Taken, TakenAt, Term, is_force}
 use Rattle.account.specs.Laws.Reordered.{same, swapped}
-use Rattle.account.proofs.Agree.{agree}
 use Rattle.account.specs.Rules.{open_rule, cost_rule, bill_rule, close_rule, file_rule, force_rule, withdraw_rule, reading_of}
+use Rattle.account.proofs.Agree.{agree}
 
 -- a call whose answer was taken by `ok()?` answered `Ok`
 pub accepted_with : {T E S : Type 0} {r : Result T E} {v : T} {f : S} {x : Result T E × S} → Some v ≡ result_ok r → (r, f) ≡ x → (Ok v, f) ≡ x

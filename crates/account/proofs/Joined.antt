@@ -1,11 +1,11 @@
 -- The checks of a bill are the period's and the month's.
 use Rattle.std.proofs.Common.{ℕ, ◌<◌, List, [], ◌∷◌, ◌++◌, map, ℤ, leb-false}
 use Rattle.std.proofs.lemmas.Bool.{lt-leb}
-use Rattle.designs.specs.Cutting.{period_checks}
-use Rattle.designs.specs.declared.hours.Hour.{Hour}
-use Rattle.designs.specs.declared.refusal.PeriodRefusal.{PeriodRefusal}
 use Rattle.refusals.specs.Checks.{Checks}
 use Rattle.refusals.proofs.Passed.{Passed}
+use Rattle.designs.specs.declared.hours.Hour.{Hour}
+use Rattle.designs.specs.declared.refusal.PeriodRefusal.{PeriodRefusal}
+use Rattle.designs.specs.Cutting.{period_checks}
 use Rattle.account.specs.declared.figures.OpenMonth.{OpenMonth}
 use Rattle.account.specs.Limits.{most_bills}
 use Rattle.account.specs.Rules.{of_its_period, month_checks, bill_checks}

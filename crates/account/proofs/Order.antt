@@ -1,16 +1,16 @@
 -- Costs and bills of a month may come in any order.
 use Rattle.std.proofs.Common.{◌≡◌, ℕ, ◌+◌, ◌-◌, ◌<◌, true, false, cond, ◌≢◌, List, [], ◌∷◌, length, get_or, set, ℤ, is_ok, Result, sym, refl, ap, ◌∙◌, subst, ⊎_elim, arith, leb-false}
+use Rattle.std.specs.List.{AllByRecursion}
 use Rattle.std.proofs.lemmas.Int.{ints}
 use Rattle.std.proofs.lemmas.Bool.{lt-leb, both_ways}
-use Rattle.std.specs.List.{AllByRecursion}
 use Rattle.std.proofs.lemmas.Bool.{cases_eq}
 use Rattle.std.proofs.lemmas.List.Elements.{All-from_recursion, recursion_from_All}
 use Rattle.std.proofs.lemmas.List.{set-set, set_comm, get_or-set_same, get_or-set_other}
-use Rattle.designs.specs.Cutting.{part_of}
-use Rattle.designs.specs.Meanings.{Meaning}
-use Rattle.designs.specs.declared.hours.Hour.{Hour}
 use Rattle.refusals.specs.Checks.{Checks, first, unless}
 use Rattle.refusals.proofs.Passed.{Passed, none_refuses, by_checks}
+use Rattle.designs.specs.declared.hours.Hour.{Hour}
+use Rattle.designs.specs.Cutting.{part_of}
+use Rattle.designs.specs.Meanings.{Meaning}
 use Rattle.account.specs.declared.answers.Billed.{Billed}
 use Rattle.account.specs.declared.figures.CostLine.{CostLine}
 use Rattle.account.specs.declared.figures.Figures.{Figures}

@@ -1,15 +1,15 @@
 -- Recovery, of every run.
 use Rattle.std.proofs.Common.{◌≡◌, ℕ, ◌+◌, ◌≤◌, Bool, true, false, cond, eqb, ltb, List, [], ◌∷◌, ◌++◌, length, ℤ, sym, refl, ap, ◌∙◌, subst, arith, ltb-false, eqb-true}
-use Rattle.std.proofs.lemmas.Bool.{eqb-false, not-false, both_ways}
 use Rattle.std.specs.List.{AllByRecursion}
+use Rattle.std.proofs.lemmas.Bool.{eqb-false, not-false, both_ways, or_parts}
 use Rattle.std.proofs.lemmas.List.{nil_from_length}
 use Rattle.std.proofs.lemmas.List.Elements.{recursion_from_All}
+use Rattle.refusals.proofs.Passed.{Passed, none_refuses, by_checks}
+use Rattle.designs.specs.declared.hours.Hour.{Hour}
 use Rattle.designs.specs.Cutting.{part_of, period_checks, hour_checks}
 use Rattle.designs.specs.Meanings.{Meaning, Sound}
 use Rattle.designs.specs.Periods.{Lawful}
-use Rattle.designs.specs.declared.hours.Hour.{Hour}
 use Rattle.designs.proofs.Cuts.{hours_lawful}
-use Rattle.refusals.proofs.Passed.{Passed, none_refuses, by_checks, or_false}
 use Rattle.account.specs.declared.answers.Billed.{Billed}
 use Rattle.account.specs.declared.figures.Figures.{Figures}
 use Rattle.account.specs.declared.opening.Opening.{Opening}
@@ -28,7 +28,7 @@ use Rattle.account.proofs.Bounds.{Keeps, recovered}
 -- a period that is refused nothing is lawful
 lawful : (held : List Hour) (start count : ℕ) → Passed (period_checks held start count) → Lawful (part_of held start count)
 lawful held start count p =
-    let q = or_false (eqb count 0) (ltb 840 count) p.0 in
+    let q = or_parts (eqb count 0) (ltb 840 count) p.0 in
     (hours_lawful held start count (eqb-false count 0 q.0) (ltb-false 840 count q.1) (ltb-false (length held) (start + count) p.1.0) (none_refuses (hour_checks 0 (part_of held start count)) p.1.1)).1
 
 module _ {D : Type 0} (m : D → Meaning) (o : Opening D) where

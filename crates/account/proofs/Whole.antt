@@ -1,9 +1,9 @@
 -- Laws of products that `omega` does not reach, since a product of two unknowns is an unknown to it.
 use Rattle.std.proofs.Common.{◌≡◌, ℕ, ◌+◌, ◌*◌, ℤ, pos, ◌+ℤ◌, ◌-ℤ◌, ◌*ℤ◌, neg_ℤ, nat_abs, ap, ◌∙◌, mul_assoc, add-mul, arith}
 use borrow.Author.Differences.{up, down, same_in, sum_is_lem, neg_is, product_is}
-use Rattle.std.proofs.lemmas.Int.{ints}
-use Rattle.rounding.proofs.Gaps.{times_is, by_is, product_size}
+use Rattle.std.proofs.lemmas.Int.{ints, unsigned_abs-mul}
 use Rattle.rounding.specs.Rounding.{gap}
+use Rattle.rounding.proofs.Gaps.{times_is, by_is}
 
 -- (m + n) × z = m × z + n × z
 pub sum_times : (m n : ℕ) (z : ℤ) → pos (m + n) *ℤ z ≡ pos m *ℤ z +ℤ pos n *ℤ z
@@ -19,7 +19,7 @@ product_times k n z =
 
 -- m × z and z × n are as far apart as z times what is between m and n.
 pub gap_times : (z : ℤ) (m n : ℕ) → gap (pos m *ℤ z) (z *ℤ pos n) ≡ nat_abs z * gap (pos m) (pos n)
-gap_times z m n = ap nat_abs (go (pos m -ℤ pos n) (omega (arith, ints))) ∙ product_size z (pos m -ℤ pos n)
+gap_times z m n = ap nat_abs (go (pos m -ℤ pos n) (omega (arith, ints))) ∙ unsigned_abs-mul z (pos m -ℤ pos n)
   where
     go : (d : ℤ) → up d + n ≡ m + down d → pos m *ℤ z -ℤ z *ℤ pos n ≡ z *ℤ d
     go d h =

@@ -1,8 +1,8 @@
 -- The calls of an account, and what a run of them leads to.
 use Rattle.std.specs.Prelude.{◌≡◌, ℕ, Bool, true, List, [], ◌∷◌, map, ℤ, is_ok, Ok, Result}
-use Rattle.designs.specs.Meanings.{Meaning}
-use Rattle.designs.specs.declared.hours.Hour.{Hour}
 use Rattle.reconciliation.specs.declared.figures.RateUnits.{RateUnits}
+use Rattle.designs.specs.declared.hours.Hour.{Hour}
+use Rattle.designs.specs.Meanings.{Meaning}
 use Rattle.account.specs.declared.answers.Billed.{Billed}
 use Rattle.account.specs.declared.answers.Closing.{Closing}
 use Rattle.account.specs.declared.answers.Reading.{Reading}

@@ -1,8 +1,8 @@
 -- A run from an opening into a first term: every kind of call at least once, and what the laws say of that run.
 use Rattle.std.specs.Prelude.{◌≡◌, List, [], ◌∷◌, length, ℤ}
+use Rattle.designs.specs.declared.hours.Hour.{Hour}
 use Rattle.designs.specs.Cutting.{part_of}
 use Rattle.designs.specs.Meanings.{Meaning}
-use Rattle.designs.specs.declared.hours.Hour.{Hour}
 use Rattle.account.specs.declared.answers.Reading.{Reading}
 use Rattle.account.specs.declared.figures.Figures.{Figures}
 use Rattle.account.specs.declared.filings.Draft.{Draft}

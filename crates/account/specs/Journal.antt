@@ -1,10 +1,10 @@
 -- The journal of an account: its accepted calls, the newest first, each with the amounts that the rules give.
 -- It is worked from the opening's arguments and the calls with accepted or refused, and from nothing else.
 use Rattle.std.specs.Prelude.{ℕ, ◌+◌, Bool, true, false, cond, List, [], ◌∷◌, ℤ, pos, ◌+ℤ◌, ◌-ℤ◌, ◌==◌, unsigned_abs}
+use Rattle.reconciliation.specs.Reconciliation.{carrying_charge, net_of, rate_of}
+use Rattle.designs.specs.declared.hours.Hour.{Hour}
 use Rattle.designs.specs.Cutting.{part_of}
 use Rattle.designs.specs.Meanings.{Meaning}
-use Rattle.designs.specs.declared.hours.Hour.{Hour}
-use Rattle.reconciliation.specs.Reconciliation.{carrying_charge, net_of, rate_of}
 use Rattle.account.specs.declared.opening.Opening.{Opening}
 use Rattle.account.specs.Calls.{Call, Outcome}
 use Rattle.account.specs.Calls.Call.{cost, bill, close, file, force, withdraw, read}

@@ -1,7 +1,7 @@
 -- The bounds that an account always keeps.
 use Rattle.std.specs.Prelude.{◌≡◌, ℕ, ◌*◌, ◌<◌, ◌≤◌, length, pos, Some, Option, slice_index_or, unsigned_abs}
-use Rattle.designs.specs.Periods.{most_quantity}
 use Rattle.reconciliation.specs.Figures.{WithinReach}
+use Rattle.designs.specs.Periods.{most_quantity}
 use Rattle.account.specs.declared.figures.CostLine.{CostLine}
 use Rattle.account.specs.declared.figures.Ledger.{Ledger}
 use Rattle.account.specs.declared.figures.OpenMonth.{OpenMonth}

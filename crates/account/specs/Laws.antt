@@ -1,7 +1,7 @@
 -- The laws of every run of an account, whatever its design.
 use Rattle.std.specs.Prelude.{◌≡◌, ℕ, ◌+◌, ◌*◌, ◌≤◌, Bool, true, false, cond, All, List, [], ◌∷◌, ◌++◌, map, length, ℤ, pos, ◌+ℤ◌, ◌*ℤ◌, unsigned_abs}
-use Rattle.designs.specs.Meanings.{Meaning}
 use Rattle.rounding.specs.Rounding.{gap}
+use Rattle.designs.specs.Meanings.{Meaning}
 use Rattle.account.specs.declared.answers.Reading.{Reading}
 use Rattle.account.specs.declared.figures.Figures.{Figures}
 use Rattle.account.specs.declared.opening.Opening.{Opening}

@@ -1,8 +1,8 @@
 -- The number that tells each refusal.
 use Rattle.std.specs.Prelude.{ℕ}
-use Rattle.designs.specs.Refusals.{period_number}
 use Rattle.reconciliation.specs.declared.refusal.Refusal.{Refusal as FigureRefusal}
 use Rattle.reconciliation.specs.declared.refusal.Refusal.TheVariants.{TaxOrInterest as FigureTaxOrInterest, Projections as FigureProjections, RateTooLarge as FigureRateTooLarge}
+use Rattle.designs.specs.Refusals.{period_number}
 use Rattle.account.specs.declared.refusal.BillRefusal.{BillRefusal}
 use Rattle.account.specs.declared.refusal.BillRefusal.TheVariants.{OfPeriod, OfAccount}
 use Rattle.account.specs.declared.refusal.Refusal.{Refusal}

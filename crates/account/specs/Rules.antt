@@ -1,13 +1,13 @@
 -- What each call answers, and every figure after it. Checks run in the order listed; a refused call changes nothing.
 use Rattle.std.specs.Prelude.{ℕ, ◌+◌, ◌-◌, ◌%◌, ◌^◌, Bool, false, not, ◌&&◌, ◌||◌, List, [], ◌∷◌, ◌++◌, map, replicate, ℤ, pos, ◌+ℤ◌, ◌-ℤ◌, Some, None, Ok, Err, fold, Option, Result, ◌==◌, int_lt, nat_le, nat_lt, slice_index_or, slice_set, unsigned_abs}
-use Rattle.designs.specs.Cutting.{part_of, period_checks}
-use Rattle.designs.specs.Meanings.{Meaning}
-use Rattle.designs.specs.declared.hours.Hour.{Hour}
-use Rattle.designs.specs.declared.refusal.PeriodRefusal.{PeriodRefusal}
-use Rattle.reconciliation.specs.Reconciliation.{carrying_charge, net_of, rate_of, tax_on}
+use Rattle.refusals.specs.Checks.{Checks, answer_unless, first, unless}
 use Rattle.reconciliation.specs.declared.figures.Cents.{Cents}
 use Rattle.reconciliation.specs.declared.figures.RateUnits.{RateUnits}
-use Rattle.refusals.specs.Checks.{Checks, answer_unless, first, unless}
+use Rattle.reconciliation.specs.Reconciliation.{carrying_charge, net_of, rate_of, tax_on}
+use Rattle.designs.specs.declared.hours.Hour.{Hour}
+use Rattle.designs.specs.declared.refusal.PeriodRefusal.{PeriodRefusal}
+use Rattle.designs.specs.Cutting.{part_of, period_checks}
+use Rattle.designs.specs.Meanings.{Meaning}
 use Rattle.account.specs.declared.answers.Billed.{Billed}
 use Rattle.account.specs.declared.answers.Closing.{Closing}
 use Rattle.account.specs.declared.answers.Reading.{Reading}

@@ -1,7 +1,7 @@
 -- Sums and laws worked by hand on a short journal, so that a wrong definition of one would be noticed.
 use Rattle.std.specs.Prelude.{◌≡◌, ℕ, true, List, [], ◌∷◌, ◌++◌, ℤ, pos, neg_ℤ, Ok}
-use Rattle.designs.specs.Meanings.{Meaning}
 use Rattle.designs.specs.declared.hours.Hour.{Hour}
+use Rattle.designs.specs.Meanings.{Meaning}
 use Rattle.account.specs.declared.answers.Billed.{Billed}
 use Rattle.account.specs.declared.answers.Reading.{Reading}
 use Rattle.account.specs.Calls.Call.{cost, bill, read}

@@ -44,9 +44,8 @@ impl<D> Account<D> {
         if ledger.filings >= MOST_FILINGS {
             return Err((draft, Refusal::FilingsFull));
         }
-        let Ok(e) = reconciliation_rate(ledger.last, draft.sum) else {
-            return Err((draft, Refusal::RateTooLarge));
-        };
+        let rate = reconciliation_rate(ledger.last, draft.sum);
+        let e = rate.map_err(|_| (draft, Refusal::RateTooLarge))?;
         let e = RateUnits(e.units());
         let number = ledger.filings + 1;
         self.figures.ledger.filings = number;
