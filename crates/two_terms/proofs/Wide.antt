@@ -1,15 +1,9 @@
 -- A difference as the code works it, in 128 bits.
-use Rattle.std.proofs.Common.{◌≡◌, ℕ, ◌*◌, ◌≤◌, ℤ, pos, ◌+ℤ◌, ◌-ℤ◌, ◌*ℤ◌, nat_abs, arith, w64, SFits, to_z, of_z}
+use Rattle.std.proofs.Common.{◌≡◌, ℕ, ◌*◌, ◌≤◌, ℤ, pos, ◌+ℤ◌, ◌-ℤ◌, ◌*ℤ◌, nat_abs, arith, SFits}
 use Rattle.std.specs.Int.{w128}
 use Rattle.std.proofs.lemmas.Nat.{mul-le}
 use Rattle.std.proofs.lemmas.Int.{ints}
-
--- a number as the code keeps it in 128 and in 64 bits
-abbrev in128 : ℤ → ℤ
-in128 z = to_z w128 (of_z w128 z)
-
-abbrev in64 : ℤ → ℤ
-in64 z = to_z w64 (of_z w64 z)
+use Rattle.rounding.proofs.Widths.{in64, in128}
 
 -- a charge of 64 bits of quantity at a rate up to 310,000
 pub charge_small : (quantity : ℕ) (rate : ℤ) → quantity ≤ 18446744073709551615 → nat_abs rate ≤ 310000 → quantity * nat_abs (in64 rate) ≤ 6000000000000000000000000
@@ -35,7 +29,3 @@ module _ (charge balance : ℤ) (hc : nat_abs charge ≤ 60000000000000000000000
 
     pub gap_is : nat_abs (in128 (in128 net -ℤ in128 aim)) ≡ nat_abs (net -ℤ (pos 10000 *ℤ charge +ℤ balance))
     gap_is = omega (arith, ints)
-
--- what fits 64 bits is kept as it is
-pub kept : (z : ℤ) → SFits w64 z → in64 z ≡ z
-kept z fits = omega (arith, ints)
