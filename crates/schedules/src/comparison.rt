@@ -47,7 +47,7 @@ impl Comparison {
     pub fn difference(&self) -> i128
         ensures { result ≡ difference_of self.now }
     {
-        i128::from(self.worked) - i128::from(self.sheet)
+        self.worked as i128 - self.sheet as i128
     }
 
     /// Whether the difference is not zero.

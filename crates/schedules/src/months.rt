@@ -90,10 +90,10 @@ impl Month {
         let before = cents(self.before);
         let interest = carrying_charge(cents(self.last), before, under, over);
         MonthWorked {
-            tax: dollars(tax(total, rate).0 as i128),
-            net: dollars(net(total, rate).0 as i128),
+            tax: dollars(i128::from(tax(total, rate).0)),
+            net: dollars(i128::from(net(total, rate).0)),
             before: self.last as i64 + self.expenses as i64 - self.net as i64,
-            interest: dollars(interest.0 as i128),
+            interest: dollars(i128::from(interest.0)),
             end: dollars(before.0 as i128 + interest.0 as i128),
         }
     }
