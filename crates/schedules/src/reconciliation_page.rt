@@ -43,7 +43,7 @@ impl ReconciliationPage {
     pub fn worked(&self, tax: TaxRate) -> Result<EWorked, Refused>
         ensures { IfOk result (λ lines. lines ≡ e_worked self.now tax.value) }
     {
-        let projected = ProjectedSum::try_from(self.projected as u64)?;
+        let projected = ProjectedSum::try_from(u64::from(self.projected))?;
         let e = reconciliation_rate(cents(self.balance), projected)?;
         Ok(EWorked {
             e: e.units(),
@@ -84,7 +84,7 @@ impl ReconciliationPage {
         Some(Comparison::new(
             LineName::ProjectedSales,
             Unit::Kwh,
-            self.projected as i64,
+            i64::from(self.projected),
             first as i64 + second as i64 + third as i64,
         ))
     }

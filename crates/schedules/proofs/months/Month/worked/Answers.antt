@@ -18,9 +18,6 @@ in32 z = to_z w32 (of_z w32 z)
 abbrev before : ℤ → ℤ → ℤ → ℤ
 before last expenses net = in64 (in64 (in32 last) +ℤ in64 (in32 expenses)) -ℤ in64 (in32 net)
 
-before_fits : (last expenses net : ℤ) → SFits w32 last → SFits w32 expenses → SFits w32 net → SFits w64 (before last expenses net)
-before_fits last expenses net a b d = omega (arith, ints)
-
 before_is : (last expenses net : ℤ) → SFits w32 last → SFits w32 expenses → SFits w32 net → in64 (before last expenses net) ≡ last +ℤ expenses -ℤ net
 before_is last expenses net a b d = omega (arith, ints)
 
@@ -30,9 +27,6 @@ joined : (m : Month) (t u o : ℕ) (tax net before interest end : ℤ)
     → ◌≡◌ {A = MonthWorked} (record { tax = tax; net = net; before = before; interest = interest; end = end }) (month_worked m t u o)
 unfolding month_worked
 joined m t u o tax net before interest end a b d e f = cc
-
-pub overflow_sub-result : goal.overflow_sub-result
-overflow_sub-result c = before_fits c.args.self.now.last c.args.self.now.expenses c.args.self.now.net (search rules) (search rules) (search rules)
 
 pub overflow_add-before : goal.overflow_add-before
 overflow_add-before c =
