@@ -13,25 +13,25 @@ use std::alloc::Global;
 
 /// What a sheet prints.
 #[derive(Clone, Copy)]
-pub struct Sheet {
+pub struct Sheet<'a> {
     /// Its company, class and quarter.
-    pub title: &'static str,
+    pub title: &'a str,
     /// The gross receipts tax T in ten-thousandths.
     pub tax: i64,
     /// Where the class has a flat rate.
-    pub price: Option<PricePage>,
+    pub price: Option<PricePage<'a>>,
     pub reconciliation: ReconciliationPage,
     pub months: [Month; 3],
 }
 
 /// The page of the supply schedule and the rate.
 #[derive(Clone, Copy)]
-pub struct PricePage {
-    pub supply: SupplyPage,
+pub struct PricePage<'a> {
+    pub supply: SupplyPage<'a>,
     pub rate: RatePage,
 }
 
-impl PricePage {
+impl PricePage<'_> {
     /// The lines of the page, in the order of the sheet.
     fn lines(&self, alloc: Global, tax: TaxRate) -> anyhow::Result<Vec<Comparison>>
         ensures { IfOk result (λ lines. lines.items ≡ price_lines self.now tax.value) }
@@ -42,7 +42,7 @@ impl PricePage {
     }
 }
 
-impl Sheet {
+impl Sheet<'_> {
     /// Prints the sheet's pages, and adds their lines to the report.
     pub fn compare<R: Print + AllocGlobal>(&self, report: &mut Report<R>) -> anyhow::Result<()>
         ensures { vec_len report.old.lines ≤ vec_len report.new.lines }

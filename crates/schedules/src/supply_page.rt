@@ -17,22 +17,22 @@ pub struct Printed {
 
 /// A supply schedule as printed. Shares are in ten-thousandths.
 #[derive(Clone, Copy)]
-pub struct SupplyPage {
+pub struct SupplyPage<'a> {
     pub seasons: Seasons,
-    pub tranches: &'static [Tranche],
+    pub tranches: &'a [Tranche],
     pub tranche_average: Printed,
     /// The share of the load that the tranches supply.
     pub tranche_share: i64,
     pub tranche_part: Printed,
     /// How the rest of the load is supplied, if there is a rest.
-    pub rest: Option<Rest>,
+    pub rest: Option<Rest<'a>>,
     pub cost_component: Printed,
 }
 
 /// What the tranches leave of the load.
 #[derive(Clone, Copy)]
-pub struct Rest {
-    pub supplied: Supplied,
+pub struct Rest<'a> {
+    pub supplied: Supplied<'a>,
     pub adders: [i64; 3],
     pub subtotal: Printed,
     pub part: Printed,
@@ -40,17 +40,17 @@ pub struct Rest {
 
 /// How the rest of the load is bought.
 #[derive(Clone, Copy)]
-pub enum Supplied {
+pub enum Supplied<'a> {
     /// At the hour's price alone.
     Hourly(i64),
     /// In blocks and at the hour's price.
-    InBlocks(Blocks),
+    InBlocks(Blocks<'a>),
 }
 
 /// What is bought in blocks, and the hour's price beside it.
 #[derive(Clone, Copy)]
-pub struct Blocks {
-    pub blocks: &'static [Block],
+pub struct Blocks<'a> {
+    pub blocks: &'a [Block],
     pub average: Printed,
     /// The share that is bought in blocks.
     pub share: i64,
@@ -68,7 +68,7 @@ impl Printed {
     }
 }
 
-impl Supplied {
+impl Supplied<'_> {
     /// The fixed and the variable part as printed.
     fn parts(&self) -> (i64, i64)
         ensures { result ≡ (fixed_part self.now, variable_part self.now) }
@@ -80,7 +80,7 @@ impl Supplied {
     }
 }
 
-impl Blocks {
+impl Blocks<'_> {
     /// The average price of the blocks, the fixed part and the variable part.
     pub fn compare(&self) -> Result<[Comparison; 3], Refused>
         ensures { IfOk result (λ lines. lines ≡ block_lines self.now self.now.blocks.now) }
@@ -96,7 +96,7 @@ impl Blocks {
     }
 }
 
-impl SupplyPage {
+impl SupplyPage<'_> {
     /// The lines of the schedule, in the order of the sheet.
     pub fn lines(&self, alloc: Global) -> anyhow::Result<Vec<Comparison>>
         ensures { IfOk result (λ lines. lines.items ≡ supply_lines self.now) }
