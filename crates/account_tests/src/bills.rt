@@ -151,10 +151,9 @@ fn flat_bills_add_up(rt: HostRuntime) -> Result<(), Fail> {
 fn in_force(balance: i64, sum: u64) -> Result<Account<Flat>, Fail> {
     let design = plain(7_145)?;
     let mut account = opened(1, balance, [590, 0, 0], design)?;
-    if let Ok(filing) = filed(&mut account, sum) {
-        let _ = closed(&mut account, 2);
-        let _ = forced(&mut account, filing, design);
-    }
+    let filing = filed(&mut account, sum).map_err(refused)?;
+    let _ = closed(&mut account, 2);
+    let _ = forced(&mut account, filing, design);
     Ok(account)
 }
 

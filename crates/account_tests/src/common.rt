@@ -211,10 +211,9 @@ pub fn forced(account: &mut Account<Flat>, filing: Filing, design: Flat) -> Resu
 pub fn used() -> Result<Account<Flat>, Fail> {
     let design = plain(8_000)?;
     let mut account = opened(9, 5_000, [590, 600, 800], plain(7_000)?)?;
-    if let Ok(filing) = filed(&mut account, 1_000_000) {
-        let _ = closed(&mut account, 2);
-        let _ = forced(&mut account, filing, design);
-    }
+    let filing = filed(&mut account, 1_000_000).map_err(refused)?;
+    let _ = closed(&mut account, 2);
+    let _ = forced(&mut account, filing, design);
     let _ = account.close();
     let _ = account.cost(2, Cents(12_345));
     let _ = account.bill(&[hour(10, 0)], 0, 1);
