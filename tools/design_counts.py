@@ -3,7 +3,7 @@
 
     python3 tools/design_counts.py [--root DIR] [POINT]...      without a point: the counts alone; with points: each place
 
-The patterns find candidates by form; what is no place after all is told on the page."""
+The patterns find candidates by form; the page counts places as read."""
 import glob, itertools, os, re, sys
 from collections import defaultdict
 
