@@ -9,7 +9,7 @@ mod rate_design;
 mod refusal;
 mod worked;
 
-pub use component::{Component, LossMultiplier};
+pub use component::{Component, LossMultiplier, loss_multiplier, rate_component};
 pub use flat::{Flat, FlatFigures};
 pub use hourly::{Hourly, HourlyFigures};
 pub use hours::cutting::cut;
