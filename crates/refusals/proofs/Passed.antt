@@ -1,5 +1,5 @@
--- What a list of checks says where none refuses.
-use Rattle.std.proofs.Common.{◌≡◌, Bool, true, false, cond, [], ◌∷◌, Some, None, Ok, Err, Option, Result, refl, ap, ◌∙◌}
+-- What a list of checks says where none refuses, and where two lists are joined.
+use Rattle.std.proofs.Common.{◌≡◌, Bool, true, false, cond, [], ◌∷◌, ◌++◌, Some, None, Ok, Err, Option, Result, refl, ap, ◌∙◌}
 use Rattle.std.specs.List.{AllByRecursion}
 use Rattle.refusals.specs.Checks.{Checks, first, unless}
 
@@ -21,6 +21,13 @@ passed (check ∷ rest) e = go check.0 refl e (passed rest)
 pub none_refuses : {R : Type 0} (checks : Checks R) → Passed checks → first checks ≡ None
 none_refuses [] h = refl
 none_refuses (check ∷ rest) h = ap (λ b. cond b (Some check.1) (first rest)) h.0 ∙ none_refuses rest h.1
+
+-- where the first list refuses nothing, the second decides
+pub after_passed : {R : Type 0} (front back : Checks R) → first front ≡ None → first (front ++ back) ≡ first back
+after_passed [] back e = refl
+after_passed (check ∷ rest) back e =
+    let p = passed (check ∷ rest) e in
+    ap (λ b. cond b (Some check.1) (first (rest ++ back))) p.0 ∙ after_passed rest back (none_refuses rest p.1)
 
 -- What holds where a check refuses, and where none does, holds of the call.
 pub by_checks : {R A S : Type 0} (P : Result A R × S → Type 0) (checks : Checks R) (answer : A) (before after : S)

@@ -15,10 +15,17 @@ charge_small quantity rate low high =
 pub scaled_small : (amount : ℤ) → 10000000 * nat_abs (in64 amount) ≤ 92233720368547758080000000
 scaled_small amount = omega (arith, ints)
 
+-- 10,000 times a charge, in 128 bits
+abbrev pub base : ℤ → ℤ
+base charge = in128 (pos 10000 *ℤ in128 charge)
+
+pub base_fits : (charge : ℤ) → nat_abs charge ≤ 6000000000000000000000000 → SFits w128 (pos 10000 *ℤ in128 charge)
+base_fits charge hc = omega (arith, ints)
+
 module _ (charge balance : ℤ) (hc : nat_abs charge ≤ 6000000000000000000000000) (hb : nat_abs balance ≤ 92233720368547758080000000) where
   -- 10,000 times a charge and a balance
   abbrev aim : ℤ
-  aim = in128 (pos 10000 *ℤ in128 charge) +ℤ in128 balance
+  aim = base charge +ℤ in128 balance
 
   pub aim_fits : SFits w128 aim
   aim_fits = omega (arith, ints)
@@ -29,3 +36,6 @@ module _ (charge balance : ℤ) (hc : nat_abs charge ≤ 60000000000000000000000
 
     pub gap_is : nat_abs (in128 (in128 net -ℤ in128 aim)) ≡ nat_abs (net -ℤ (pos 10000 *ℤ charge +ℤ balance))
     gap_is = omega (arith, ints)
+
+pub same_gap : {n n' c c' b b' : ℤ} → n ≡ n' → c ≡ c' → b ≡ b' → nat_abs (n -ℤ (pos 10000 *ℤ c +ℤ b)) ≡ nat_abs (n' -ℤ (pos 10000 *ℤ c' +ℤ b'))
+same_gap {n} {n'} {c} {c'} {b} {b'} p q r = cc
