@@ -10,6 +10,7 @@ use crate::rate_page::{gross_up, gross_up_line, per_kwh, with_tax};
 use crate::refused::Refused;
 use reconciliation::{ProjectedSum, TaxRate, reconciliation_rate};
 use std::alloc::Global;
+use std::io;
 
 /// The figures of a page as printed, rates in rate units and the gross-up in millionths.
 #[derive(Clone, Copy)]
@@ -56,7 +57,7 @@ impl ReconciliationPage {
     pub fn lines(&self, alloc: Global, tax: TaxRate) -> anyhow::Result<Vec<Comparison>>
         ensures { IfOk result (λ lines. lines.items ≡ reconciliation_lines self.now tax.value) }
     {
-        let mut lines = Vec::new(alloc);
+        let mut lines = Vec::with_capacity(alloc, 4).map_err(io::Error::from)?;
         if let Some(sales) = self.compare_sales() {
             lines.push(sales)?;
         }

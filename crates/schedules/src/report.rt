@@ -34,6 +34,14 @@ impl<'a, R: Print + AllocGlobal> Report<'a, R> {
             "  {heading:<58}{:>15}{:>15}{:>15}",
             "the sheet", "by the rules", "difference"
         )?;
+        self.rows(lines)
+    }
+
+    /// Prints lines of the page whose heading was printed last, which are added to those so far.
+    pub fn rows(&mut self, lines: &[Comparison]) -> anyhow::Result<()>
+        ensures items { self.new.lines.items ≡ (if is_ok result then self.old.lines.items ++ lines.now else self.old.lines.items) }
+        ensures count { vec_len self.old.lines ≤ vec_len self.new.lines }
+    {
         for line in lines {
             self.row(line)?;
         }

@@ -51,12 +51,13 @@ impl Sheet<'_> {
         let rates = Rates::new(self.tax)?;
         println!(report.rt; "")?;
         println!(report.rt; "{}", self.title)?;
+        // A heading is printed before the lines below it are worked.
         if let Some(page) = &self.price {
-            let lines = page.lines(alloc, rates.tax)?;
-            report.page("Supply schedule and rate", lines.as_slice())?;
+            report.page("Supply schedule and rate", &[])?;
+            report.rows(page.lines(alloc, rates.tax)?.as_slice())?;
         }
-        let lines = self.reconciliation.lines(alloc, rates.tax)?;
-        report.page("Reconciliation rate E", lines.as_slice())?;
+        report.page("Reconciliation rate E", &[])?;
+        report.rows(self.reconciliation.lines(alloc, rates.tax)?.as_slice())?;
         for month in &self.months {
             let heading = format!(in alloc; "The month of {:?} {}", month.name, month.year)?;
             report.page(heading.as_str(), &month.compare(rates))?;

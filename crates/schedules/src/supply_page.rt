@@ -6,6 +6,7 @@ use crate::comparison::{Comparison, Unit};
 use crate::line_name::LineName;
 use crate::refused::Refused;
 use std::alloc::Global;
+use std::io;
 use supply::{Block, Seasons, Terms, Tranche};
 
 /// A line as printed: its name and its figure, in cents per MWh.
@@ -101,7 +102,9 @@ impl SupplyPage<'_> {
     pub fn lines(&self, alloc: Global) -> anyhow::Result<Vec<Comparison>>
         ensures { IfOk result (λ lines. lines.items ≡ supply_lines self.now) }
     {
-        let mut lines = Vec::from_slice(alloc, &self.compare_tranches()?)?;
+        // Room for the lines of the rate below them too: a page's list is made by one piece of memory.
+        let mut lines = Vec::with_capacity(alloc, 16).map_err(io::Error::from)?;
+        lines.extend_from_slice(&self.compare_tranches()?)?;
         let component = self.compare_component()?;
         let Some(rest) = &self.rest else {
             lines.push(component)?;
