@@ -142,13 +142,16 @@ impl<'a, P: Print> Run<'a, P> {
         ))
     }
 
-    /// Tells a filing, and passes two months while it pends.
+    /// Tells a filing, and passes two months while it pends: both months, whatever failed before, and the first failure is told.
     fn pend(&mut self, filing: &Filing, months: [Month; 2]) -> anyhow::Result<Sums> {
-        println!(self.rt; "file\t{}\t{}", filing.number(), PerKwh(filing.e()))?;
-        self.read()?;
+        let shown = println!(self.rt; "file\t{}\t{}", filing.number(), PerKwh(filing.e()));
+        let told = self.read();
         let [first, second] = months;
-        let sums = self.pass(first)?;
-        Ok(sums.and(self.pass(second)?))
+        let first = self.pass(first);
+        let second = self.pass(second);
+        shown?;
+        told?;
+        Ok(first?.and(second?))
     }
 
     /// Takes a filing into force with the next design, or withdraws it where there is none; a refused one is withdrawn.
